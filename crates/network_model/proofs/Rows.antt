@@ -41,7 +41,7 @@ run s n [] = []
 run s n (c ∷ cs) = let t = one s n (c.0) (c.1) in t.reply ∷ run s (t.state) cs
 
 session : List (Call × ℕ) → List CoreReply
-unfolding run shape at coefficient zero_coefficient one_coefficient ◌⊕◌ ◌⊗◌ negated conjugate times_root root squares weight no_weight weight_sum scaled weight_difference is_positive_at is_positive is_less is_set turned with_bit is_listed mask within rows_of squares_over imaginary matrix entry gate controlled_not controlled_phase two_gate weight_of whole_weight one_weight draw keep raised paired opening members group_of held_number line_eq is_in_queue queue load places_of is_measurement gate_of two_of rotation_of remote_of line_of is_making is_pair is_without_operand node_at operand own_number other_number remote_node united_group first_fault refusal least_from least_free least_id least joined without left alone with_label unheld without_first outcome_of taken_out left_as pair_info received_first received pair_reply quiet after_gate after_two effect_of effect IsTooLarge draws
+unfolding run shape at root squares is_positive_at is_positive is_less is_set turned with_bit is_listed mask within rows_of squares_over imaginary matrix entry gate controlled_not controlled_phase two_gate weight_of whole_weight one_weight draw keep raised paired opening members group_of held_number line_eq is_in_queue queue load places_of is_measurement gate_of two_of rotation_of remote_of line_of is_making is_pair is_without_operand node_at operand own_number other_number remote_node united_group first_fault refusal least_from least_free least_id least joined without left alone with_label unheld without_first outcome_of taken_out left_as pair_info received_first received pair_reply quiet after_gate after_two effect_of effect IsTooLarge draws
 session cs = run (shape 12) opening cs
 
 -- a fresh qubit measures 0

@@ -22,7 +22,6 @@ root_some (suc k) e = root_some k (of_times (root k) e)
         same_coordinates _ _ (ap (λ t. t.b) e) (ap (λ t. t.c) e) (ap (λ t. t.d) e) (let f : neg_ℤ z.d ≡ pos 0 = ap (λ t. t.a) e in omega (arith, ints))
 
 doubled_some : (z : Coefficient) → z ⊕ z ≡ zero_coefficient → z ≡ zero_coefficient
-unfolding ◌⊕◌ zero_coefficient coefficient
 doubled_some z e = same_coordinates _ _ (half z.a (ap (λ t. t.a) e)) (half z.b (ap (λ t. t.b) e)) (half z.c (ap (λ t. t.c) e)) (half z.d (ap (λ t. t.d) e))
   where
     half : (n : ℤ) → n +ℤ n ≡ pos 0 → n ≡ pos 0
@@ -30,7 +29,6 @@ doubled_some z e = same_coordinates _ _ (half z.a (ap (λ t. t.a) e)) (half z.b 
 
 -- the difference of two squares
 squares_differ : (e z : Coefficient) → (e ⊕ z) ⊗ (e ⊕ z) ⊕ negated ((e ⊕ negated z) ⊗ (e ⊕ negated z)) ≡ (e ⊗ z ⊕ z ⊗ e) ⊕ (e ⊗ z ⊕ z ⊗ e)
-unfolding ◌⊕◌ ◌⊗◌ negated coefficient
 squares_differ e z = same_coordinates _ _
     (simp expand (omega (arith, same_in, sum_is_lem, neg_is)))
     (simp expand (omega (arith, same_in, sum_is_lem, neg_is)))
@@ -38,7 +36,6 @@ squares_differ e z = same_coordinates _ _
     (simp expand (omega (arith, same_in, sum_is_lem, neg_is)))
 
 unit_times : (t : Coefficient) → one_coefficient ⊗ t ≡ t
-unfolding ◌⊗◌ one_coefficient coefficient
 unit_times t = same_coordinates _ _ (omega (arith, ints)) (omega (arith, ints)) (omega (arith, ints)) (omega (arith, ints))
 
 four_times : (z : Coefficient) → (one_coefficient ⊕ z) ⊗ (one_coefficient ⊕ z) ⊕ negated ((one_coefficient ⊕ negated z) ⊗ (one_coefficient ⊕ negated z)) ≡ (z ⊕ z) ⊕ (z ⊕ z)
@@ -51,13 +48,12 @@ turned_back y z =
     ∙ sym (⊗_assoc (negated imaginary) imaginary (z ⊗ y)) ∙ one (z ⊗ y) ∙ ⊗_comm z y
   where
     is_unit : negated imaginary ⊗ imaginary ≡ one_coefficient
-    is_unit = unfold imaginary negated ◌⊗◌ root times_root one_coefficient coefficient in refl
+    is_unit = unfold imaginary root in refl
 
     one : (t : Coefficient) → (negated imaginary ⊗ imaginary) ⊗ t ≡ t
     one t = ap (λ k. k ⊗ t) is_unit ∙ unit_times t
 
 diagonal : (z : Coefficient) → one_coefficient ⊗ z ⊕ negated (zero_coefficient ⊗ zero_coefficient) ≡ z
-unfolding ◌⊕◌ ◌⊗◌ negated one_coefficient zero_coefficient coefficient
 diagonal z = same_coordinates _ _ (omega (arith, ints)) (omega (arith, ints)) (omega (arith, ints)) (omega (arith, ints))
 
 -- the determinant of each gate
@@ -74,31 +70,31 @@ determinant_of (RotY k) = (root k ⊕ root k) ⊕ (root k ⊕ root k)
 determinant_of (RotZ k) = root k
 
 determinant_is-I : determinant (matrix I) ≡ determinant_of I
-unfolding determinant determinant_of matrix imaginary root times_root ◌⊕◌ ◌⊗◌ negated one_coefficient zero_coefficient coefficient
+unfolding determinant determinant_of matrix imaginary root
 determinant_is-I = refl
 
 determinant_is-X : determinant (matrix X) ≡ determinant_of X
-unfolding determinant determinant_of matrix imaginary root times_root ◌⊕◌ ◌⊗◌ negated one_coefficient zero_coefficient coefficient
+unfolding determinant determinant_of matrix imaginary root
 determinant_is-X = refl
 
 determinant_is-Y : determinant (matrix Y) ≡ determinant_of Y
-unfolding determinant determinant_of matrix imaginary root times_root ◌⊕◌ ◌⊗◌ negated one_coefficient zero_coefficient coefficient
+unfolding determinant determinant_of matrix imaginary root
 determinant_is-Y = refl
 
 determinant_is-Z : determinant (matrix Z) ≡ determinant_of Z
-unfolding determinant determinant_of matrix imaginary root times_root ◌⊕◌ ◌⊗◌ negated one_coefficient zero_coefficient coefficient
+unfolding determinant determinant_of matrix imaginary root
 determinant_is-Z = refl
 
 determinant_is-T : determinant (matrix T) ≡ determinant_of T
-unfolding determinant determinant_of matrix imaginary root times_root ◌⊕◌ ◌⊗◌ negated one_coefficient zero_coefficient coefficient
+unfolding determinant determinant_of matrix imaginary root
 determinant_is-T = refl
 
 determinant_is-H : determinant (matrix H) ≡ determinant_of H
-unfolding determinant determinant_of matrix imaginary root times_root ◌⊕◌ ◌⊗◌ negated one_coefficient zero_coefficient coefficient
+unfolding determinant determinant_of matrix imaginary root
 determinant_is-H = refl
 
 determinant_is-K : determinant (matrix K) ≡ determinant_of K
-unfolding determinant determinant_of matrix imaginary root times_root ◌⊕◌ ◌⊗◌ negated one_coefficient zero_coefficient coefficient
+unfolding determinant determinant_of matrix imaginary root
 determinant_is-K = refl
 
 pub determinant_is : (g : Gate) → determinant (matrix g) ≡ determinant_of g
@@ -114,7 +110,6 @@ determinant_is (RotY k) = unfold determinant matrix determinant_of in (ap (λ t.
 determinant_is (RotZ k) = unfold determinant matrix determinant_of in diagonal (root k)
 
 minus_one_some : negated one_coefficient ≢ zero_coefficient
-unfolding negated one_coefficient zero_coefficient coefficient
 minus_one_some e = let f : negsuc 0 ≡ pos 0 = ap (λ z. z.a) e in cc
 
 determinant_of-some : (g : Gate) → determinant_of g ≢ zero_coefficient

@@ -19,7 +19,7 @@ norm x y = x *ℤ x -ℤ (y *ℤ y +ℤ y *ℤ y)
 
 -- the product with the conjugate is the weight
 pub ⊗-conjugate : (z : Coefficient) → z ⊗ conjugate z ≡ real ((weight z).x) ((weight z).y)
-unfolding ◌⊗◌ coefficient conjugate weight real
+unfolding real
 ⊗-conjugate z = same_coordinates _ _
     (simp expand (omega (arith, ints)))
     (simp expand (omega (arith, ints)))
@@ -28,7 +28,7 @@ unfolding ◌⊗◌ coefficient conjugate weight real
 
 -- the product with the other root of 2 is the norm
 pub real-norm : (x y : ℤ) → real x y ⊗ real x (neg_ℤ y) ≡ whole (norm x y)
-unfolding ◌⊗◌ coefficient real whole norm
+unfolding real whole norm
 real-norm x y = same_coordinates _ _
     (simp expand (omega (arith, ints)))
     (simp expand (omega (arith, ints)))
@@ -36,7 +36,7 @@ real-norm x y = same_coordinates _ _
     (simp expand (omega (arith, ints)))
 
 pub whole-⊗ : (n : ℤ) (z : Coefficient) → whole n ⊗ z ≡ coefficient (n *ℤ z.a) (n *ℤ z.b) (n *ℤ z.c) (n *ℤ z.d)
-unfolding ◌⊗◌ coefficient whole
+unfolding whole
 whole-⊗ n z = same_coordinates _ _ (omega (arith, ints)) (omega (arith, ints)) (omega (arith, ints)) (omega (arith, ints))
 
 -- each coefficient has a multiple that is a whole number, its norm
@@ -78,7 +78,7 @@ square_abs (negsuc n) = refl
 
 -- the whole part of a weight is the sum of squares
 pub square_sum : (z : Coefficient) → (weight z).x ≡ pos (squares z)
-unfolding weight squares
+unfolding squares
 square_sum z =
     let p = square_abs z.a in
     let q = square_abs z.b in
@@ -93,7 +93,7 @@ abs_zero (negsuc n) e = absurd (grind arith)
 
 -- only zero has no squares
 pub no_squares : (z : Coefficient) → squares z ≡ 0 → z ≡ zero_coefficient
-unfolding squares zero_coefficient coefficient
+unfolding squares
 no_squares z e = same_coordinates _ _ (abs_zero z.a (omega arith)) (abs_zero z.b (omega arith)) (abs_zero z.c (omega arith)) (abs_zero z.d (omega arith))
 
 -- the norm of √2-numbers is 0 only at 0
@@ -119,7 +119,6 @@ norm_of-zero z e = no_squares z (sym (ap nat_abs (square_sum z)) ∙ norm_zero (
 ℤ_times_zero (negsuc n) (negsuc a) h e = absurd (let p : suc n * suc a ≡ 0 = ap nat_abs e in grind arith)
 
 pub ⊗-zero_coefficient : (z : Coefficient) → z ⊗ zero_coefficient ≡ zero_coefficient
-unfolding ◌⊗◌ zero_coefficient coefficient
 ⊗-zero_coefficient z = same_coordinates _ _ (omega (arith, ints)) (omega (arith, ints)) (omega (arith, ints)) (omega (arith, ints))
 
 pub zero_coefficient-⊗ : (z : Coefficient) → zero_coefficient ⊗ z ≡ zero_coefficient
@@ -127,7 +126,6 @@ zero_coefficient-⊗ z = ⊗_comm zero_coefficient z ∙ ⊗-zero_coefficient z
 
 -- a multiple by a whole number other than 0 is zero only for zero
 whole_times_zero : (n : ℤ) (z : Coefficient) → n ≢ pos 0 → coefficient (n *ℤ z.a) (n *ℤ z.b) (n *ℤ z.c) (n *ℤ z.d) ≡ zero_coefficient → z ≡ zero_coefficient
-unfolding coefficient zero_coefficient
 whole_times_zero n z some at = same_coordinates _ _ (ℤ_times_zero n z.a some (ap (λ t. t.a) at)) (ℤ_times_zero n z.b some (ap (λ t. t.b) at)) (ℤ_times_zero n z.c some (ap (λ t. t.c) at)) (ℤ_times_zero n z.d some (ap (λ t. t.d) at))
 
 -- no zero divisors

@@ -37,19 +37,19 @@ unfolding times product_x product_y
 times_comm p q = same_weight _ _ (omega (arith, ints)) (omega (arith, ints))
 
 times-sum : (p q r : Weight) → times (weight_sum p q) r ≡ weight_sum (times p r) (times q r)
-unfolding times weight_sum product_x product_y
+unfolding times product_x product_y
 times-sum p q r = same_weight _ _ (simp expand (omega (arith, same_in, sum_is_lem))) (simp expand (omega (arith, same_in, sum_is_lem)))
 
 times-difference : (p q r : Weight) → times (weight_difference p q) r ≡ weight_difference (times p r) (times q r)
-unfolding times weight_difference product_x product_y
+unfolding times product_x product_y
 times-difference p q r = same_weight _ _ (simp expand (omega (arith, same_in, sum_is_lem, neg_is))) (simp expand (omega (arith, same_in, sum_is_lem, neg_is)))
 
 times-scaled : (n : ℕ) (p r : Weight) → times (scaled n p) r ≡ scaled n (times p r)
-unfolding times scaled product_x product_y
+unfolding times product_x product_y
 times-scaled n p r = same_weight _ _ (simp expand) (simp expand)
 
 times-none : (r : Weight) → times no_weight r ≡ no_weight
-unfolding times no_weight product_x product_y
+unfolding times product_x product_y
 times-none r = same_weight _ _ (omega (arith, ints)) (omega (arith, ints))
 
 -- the sums of two vectors whose coefficients are proportional are so
@@ -84,7 +84,6 @@ pub abs_sum : (a b : ℤ) → nat_abs (a +ℤ b) ≤ nat_abs a + nat_abs b
 abs_sum a b = omega (arith, ints)
 
 y_factored : (z : Coefficient) → (weight z).y ≡ z.b *ℤ (z.c +ℤ z.a) +ℤ z.d *ℤ (z.c -ℤ z.a)
-unfolding weight
 y_factored z = simp expand (omega (arith, ints))
 
 two_squares : (a c : ℤ) → (c +ℤ a) *ℤ (c +ℤ a) +ℤ (c -ℤ a) *ℤ (c -ℤ a) ≡ (a *ℤ a +ℤ c *ℤ c) +ℤ (a *ℤ a +ℤ c *ℤ c)

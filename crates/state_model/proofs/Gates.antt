@@ -21,7 +21,7 @@ cancelled : (p q r s : Coefficient) → q ≡ s → (p ⊕ q) ⊕ negated (r ⊕
 cancelled p q r s e = subst (λ t. (p ⊕ q) ⊕ negated (r ⊕ t) ≡ p ⊕ negated r) e (at p q r)
   where
     at : (p q r : Coefficient) → (p ⊕ q) ⊕ negated (r ⊕ q) ≡ p ⊕ negated r
-    at p q r = unfold ◌⊕◌ negated coefficient in same_coordinates _ _ (omega (arith, ints)) (omega (arith, ints)) (omega (arith, ints)) (omega (arith, ints))
+    at p q r = same_coordinates _ _ (omega (arith, ints)) (omega (arith, ints)) (omega (arith, ints)) (omega (arith, ints))
 
 -- the product of the determinant and a coefficient, from a row of the matrix times the other's entries
 cramer : (a b c d x y : Coefficient) → (a ⊗ d ⊕ negated (b ⊗ c)) ⊗ x ≡ d ⊗ (a ⊗ x ⊕ b ⊗ y) ⊕ negated (b ⊗ (c ⊗ x ⊕ d ⊗ y))
@@ -34,7 +34,6 @@ cramer a b c d x y =
     ∙ ap (λ t. d ⊗ (a ⊗ x ⊕ b ⊗ y) ⊕ negated t) (sym (⊗-⊕ b (c ⊗ x) (d ⊗ y)))
 
 zero_difference : zero_coefficient ⊕ negated zero_coefficient ≡ zero_coefficient
-unfolding ◌⊕◌ negated zero_coefficient coefficient
 zero_difference = refl
 
 -- where both rows of the matrix give zero, both coefficients are zero
@@ -86,7 +85,7 @@ entry_absent : (m : Matrix) (b : Bool) (x y : Coefficient) → x ≡ zero_coeffi
 entry_absent m b x y e f = ap (λ t. entry m b t y) e ∙ ap (λ t. entry m b zero_coefficient t) f ∙ none b
   where
     sum : (k l : Coefficient) → k ⊗ zero_coefficient ⊕ l ⊗ zero_coefficient ≡ zero_coefficient
-    sum k l = ap (λ t. t ⊕ l ⊗ zero_coefficient) (⊗-zero_coefficient k) ∙ ap (λ t. zero_coefficient ⊕ t) (⊗-zero_coefficient l) ∙ unfold ◌⊕◌ zero_coefficient coefficient in refl
+    sum k l = ap (λ t. t ⊕ l ⊗ zero_coefficient) (⊗-zero_coefficient k) ∙ ap (λ t. zero_coefficient ⊕ t) (⊗-zero_coefficient l) ∙ refl
 
     none : (b : Bool) → entry m b zero_coefficient zero_coefficient ≡ zero_coefficient
     none false = unfold entry in sum m.zero_zero m.zero_one

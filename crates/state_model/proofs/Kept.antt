@@ -34,7 +34,6 @@ half_square a b n m p q = finish (below (2 * (a * b)) (n * m) (let product = mul
     finish h = omega arith
 
 sum_natural : (n m : ℕ) (p q : Weight) → IsNatural n p → IsNatural m q → IsNatural (n + m) (weight_sum p q)
-unfolding weight_sum
 sum_natural n m p q f g = record {
   x = (let e = f.x in let h = g.x in omega (arith, ints));
   y = (let low = abs_sum p.y q.y in let s = mul-le-mul low low in let h = half_square (nat_abs p.y) (nat_abs q.y) n m f.y g.y in omega arith);
@@ -46,7 +45,7 @@ sum_squares v [] = 0
 sum_squares v (x ∷ xs) = squares (v x) + sum_squares v xs
 
 weights_natural : (v : Vector) (xs : List ℕ) → IsNatural (sum_squares v xs) (weight_of v xs)
-unfolding weight_of sum_squares no_weight
+unfolding weight_of sum_squares
 weights_natural v [] = record { x = refl; y = omega arith }
 weights_natural v (x ∷ xs) = sum_natural _ _ _ _ (record { x = square_sum (v x); y = y_below (v x) }) (weights_natural v xs)
 
@@ -122,7 +121,6 @@ rows_complete (q ∷ g) x h = is_listed-snoc (rows_of g) (map (with_bit q true) 
 -- ---- the outcome
 -- a multiple of a sum of weights is not below 0, and it is above 0 where the sum is
 scaled_natural : (k n : ℕ) (w : Weight) → IsNatural n w → IsNatural (k * n) (scaled k w)
-unfolding scaled
 scaled_natural k n w f = record {
   x = (let e = f.x in ap (λ t. pos k *ℤ t) e);
   y = (let a = abs_times (pos k) w.y in let s = ap (λ t. t * t) a in let g = f.y in let h = times_square k (nat_abs w.y) n g in omega arith);
@@ -162,7 +160,6 @@ positive n w f some = inl (
     not_below (negsuc z) a b = absurd (a (omega (arith, ints)))
 
 weightless : (w : Weight) → weight_sum (weight zero_coefficient) w ≡ w
-unfolding weight_sum weight zero_coefficient coefficient
 weightless w = same_weight _ _ (omega (arith, ints)) (omega (arith, ints))
 
 -- the rows that fail a test do not weigh where their coefficients are zero
@@ -187,16 +184,16 @@ none_filtered v test (x ∷ xs) zero_at = by (test x) refl (none_filtered v test
 
 -- the comparison where no row has the bit 1
 less_none : (word n : ℕ) (p : Weight) → IsNatural n p → is_less (scaled word p) (scaled (2 ^ 64) no_weight) ≡ true → ⊥
-unfolding is_less is_positive weight_difference
+unfolding is_less is_positive
 less_none word n p f e =
     negative (word * n) (scaled word p) (scaled_natural word n p f)
     (subst (λ (z : ℤ). IsAbove z (neg_ℤ (scaled word p).y)) (minus_x (scaled word p)) (subst (λ (z : ℤ). IsAbove ((scaled (2 ^ 64) no_weight).x -ℤ (scaled word p).x) z) (minus_y (scaled word p)) (positive-true _ _ e)))
   where
     minus_x : (w : Weight) → (scaled (2 ^ 64) no_weight).x -ℤ w.x ≡ neg_ℤ w.x
-    minus_x w = unfold scaled no_weight in omega (arith, ints)
+    minus_x w = omega (arith, ints)
 
     minus_y : (w : Weight) → (scaled (2 ^ 64) no_weight).y -ℤ w.y ≡ neg_ℤ w.y
-    minus_y w = unfold scaled no_weight in omega (arith, ints)
+    minus_y w = omega (arith, ints)
 
 product_some : (m n : ℕ) → ¬ (m ≡ 0) → ¬ (n ≡ 0) → ¬ (m * n ≡ 0)
 product_some zero n h k e = h refl
@@ -211,16 +208,16 @@ scaled_difference a k word z e =
 
 -- the comparison where each row has the bit 1
 less_all : (word n : ℕ) (p : Weight) → IsNatural n p → ¬ (n ≡ 0) → word < 2 ^ 64 → is_less (scaled word p) (scaled (2 ^ 64) p) ≡ true
-unfolding is_less is_positive weight_difference
+unfolding is_less is_positive
 less_all word n p f some h = above-positive _ _
     (subst (λ (z : ℤ). IsAbove z ((scaled (2 ^ 64) p).y -ℤ (scaled word p).y)) (rest_x p.x) (subst (λ (z : ℤ). IsAbove ((scaled (2 ^ 64 - word) p).x) z) (rest_y p.y)
     (positive ((2 ^ 64 - word) * n) (scaled (2 ^ 64 - word) p) (scaled_natural (2 ^ 64 - word) n p f) (product_some (2 ^ 64 - word) n (λ e. absurd (omega arith)) some))))
   where
     rest_x : (x : ℤ) → (scaled (2 ^ 64 - word) p).x ≡ (scaled (2 ^ 64) p).x -ℤ (scaled word p).x
-    rest_x x = unfold scaled in scaled_difference (2 ^ 64) (2 ^ 64 - word) word p.x (omega arith)
+    rest_x x = scaled_difference (2 ^ 64) (2 ^ 64 - word) word p.x (omega arith)
 
     rest_y : (y : ℤ) → (scaled (2 ^ 64 - word) p).y ≡ (scaled (2 ^ 64) p).y -ℤ (scaled word p).y
-    rest_y y = unfold scaled in scaled_difference (2 ^ 64) (2 ^ 64 - word) word p.y (omega arith)
+    rest_y y = scaled_difference (2 ^ 64) (2 ^ 64 - word) word p.y (omega arith)
 
 -- what the drawn outcome keeps has a row
 pub kept_some_row : (live : List ℕ) (v : Vector) (q word : ℕ) → word < 2 ^ 64 → IsOver live v → ¬ ((x : ℕ) → v x ≡ zero_coefficient) → ¬ ((x : ℕ) → keep q (draw live v q word) v x ≡ zero_coefficient)

@@ -128,7 +128,6 @@ unfolding IsHomogeneous controlled_not
 controlled_not-IsHomogeneous p q v k x = refl
 
 pub negated_times : (y k : Coefficient) → negated y ⊗ k ≡ negated (y ⊗ k)
-unfolding negated ◌⊗◌ coefficient
 negated_times y k = same_coordinates _ _
     (simp expand (omega (arith, same_in, sum_is_lem, neg_is)))
     (simp expand (omega (arith, same_in, sum_is_lem, neg_is)))

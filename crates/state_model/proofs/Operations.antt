@@ -29,11 +29,9 @@ over_by g v none x row = within_all g x (λ p out. by p out (is_set p x) refl)
     by p out false e = e
 
 negated_absent : negated zero_coefficient ≡ zero_coefficient
-unfolding negated zero_coefficient coefficient
 negated_absent = refl
 
 negated_twice : (z : Coefficient) → negated (negated z) ≡ z
-unfolding negated coefficient
 negated_twice z = same_coordinates _ _ (omega (arith, ints)) (omega (arith, ints)) (omega (arith, ints)) (omega (arith, ints))
 
 turned_twice : (q x : ℕ) → turned q (turned q x) ≡ x

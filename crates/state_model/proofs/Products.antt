@@ -93,7 +93,6 @@ product_ratios v (u ∷ us) parts apart x y same =
     by p out false e = blend_outside (u.0) p x y e ∙ same p (is_listed-snoc (u.0) (union_of us) p ∙ ap (λ b. b || is_listed (union_of us) p) e ∙ out)
 
 pub one_some : one_coefficient ≡ zero_coefficient → ⊥
-unfolding one_coefficient zero_coefficient coefficient
 one_some e = let f = ap (λ t. t.a) e in cc
 
 -- the product of parts has a row

@@ -99,11 +99,11 @@ unfolding entry
 entry_absent m false = ap (λ c. c ⊕ m.zero_one ⊗ zero_coefficient) (⊗-zero_coefficient m.zero_zero) ∙ ap (λ c. zero_coefficient ⊕ c) (⊗-zero_coefficient m.zero_one) ∙ none
   where
     none : zero_coefficient ⊕ zero_coefficient ≡ zero_coefficient
-    none = unfold ◌⊕◌ zero_coefficient coefficient in refl
+    none = refl
 entry_absent m true = ap (λ c. c ⊕ m.one_one ⊗ zero_coefficient) (⊗-zero_coefficient m.one_zero) ∙ ap (λ c. zero_coefficient ⊕ c) (⊗-zero_coefficient m.one_one) ∙ none
   where
     none : zero_coefficient ⊕ zero_coefficient ≡ zero_coefficient
-    none = unfold ◌⊕◌ zero_coefficient coefficient in refl
+    none = refl
 
 -- a list that is the gate's at each row stands for the gate's vector
 pub register_gate : (qs : List ℕ) (m : Matrix) (j q : ℕ) (xs ys : List Coefficient) → AreDistinct qs → IsAt qs j q

@@ -24,7 +24,6 @@ pub at_some_row : (v : Vector) (y z : Coefficient) → ¬ ((x : ℕ) → v x ≡
 at_some_row v y z some each = stable y z (λ n. some (λ x. stable (v x) zero_coefficient (λ h. n (each x h))))
 
 difference_zero : (y z : Coefficient) → y ⊕ negated z ≡ zero_coefficient → y ≡ z
-unfolding ◌⊕◌ negated coefficient zero_coefficient
 difference_zero y z e = same_coordinates y z
     (let h = ap (λ t. t.a) e in omega (arith, ints))
     (let h = ap (λ t. t.b) e in omega (arith, ints))
@@ -32,7 +31,6 @@ difference_zero y z e = same_coordinates y z
     (let h = ap (λ t. t.d) e in omega (arith, ints))
 
 difference_self : (y : Coefficient) → y ⊕ negated y ≡ zero_coefficient
-unfolding ◌⊕◌ negated coefficient zero_coefficient
 difference_self y = same_coordinates _ _ (omega (arith, ints)) (omega (arith, ints)) (omega (arith, ints)) (omega (arith, ints))
 
 -- a factor other than zero cancels

@@ -69,8 +69,8 @@ kept_part g q b v u inside some part = record {
     ratio : (x y : ℕ) → AgreeOutside (without g q) x y → (t : Bool) → is_set q x ≡ t → keep q b v x ⊗ keep q b u (within (without g q) y) ≡ keep q b v y ⊗ keep q b u (within (without g q) x)
     ratio x y same true e =
         let f : is_set q y ≡ true = sym (same q (not_in g q)) ∙ e in
-        ap (λ t. cond t zero_coefficient (v (with_bit q b x)) ⊗ keep q b u (within (without g q) y)) e ∙ zero_coefficient-⊗ _
-        ∙ sym (ap (λ t. cond t zero_coefficient (v (with_bit q b y)) ⊗ keep q b u (within (without g q) x)) f ∙ zero_coefficient-⊗ _)
+        ap (λ t. cond t zero_coefficient (v (with_bit q b x)) ⊗ keep q b u (within (without g q) y)) e ∙ zero_coefficient-⊗ (keep q b u (within (without g q) y))
+        ∙ sym (ap (λ t. cond t zero_coefficient (v (with_bit q b y)) ⊗ keep q b u (within (without g q) x)) f ∙ zero_coefficient-⊗ (keep q b u (within (without g q) x)))
     ratio x y same false e =
         let f : is_set q y ≡ false = sym (same q (not_in g q)) ∙ e in
         ap (λ t. cond t zero_coefficient (v (with_bit q b x)) ⊗ keep q b u (within (without g q) y)) e ∙ ap (λ c. v (with_bit q b x) ⊗ c) (at y)
@@ -112,7 +112,7 @@ smaller : (t : Bool) (z : Coefficient) → squares (cond t zero_coefficient z) �
 smaller true z = none_less (squares z)
   where
     none_less : (n : ℕ) → squares zero_coefficient ≤ n
-    none_less n = unfold squares zero_coefficient coefficient in omega arith
+    none_less n = unfold squares in omega arith
 smaller false z = le_refl (squares z)
 
 join : (a b c d : ℕ) → b ≡ c + d → a + b ≡ (a + c) + d

@@ -53,7 +53,7 @@ module _ (g : List ℕ) (v : Vector) (on : ℕ → Bool)
       is_over x here false e = absurd (here (unfold on_rows in ap (λ t. cond t (cond (on x) one_coefficient zero_coefficient) zero_coefficient) e))
 
 one_square : (s t : Bool) → squares (cond s (cond t one_coefficient zero_coefficient) zero_coefficient) ≤ 1
-unfolding squares one_coefficient zero_coefficient coefficient
+unfolding squares
 one_square true true = omega arith
 one_square true false = omega arith
 one_square false t = omega arith

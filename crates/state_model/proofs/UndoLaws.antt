@@ -36,7 +36,7 @@ unfolding matrix scale_of turn_z
 rotated_z k = both_orders turn_z 1 turn_z-undone turn_z-adjoint k
 
 pub gates_can_be_undone : GatesCanBeUndone
-unfolding product adjoint matrix imaginary identity_times times_one scale_of conjugate root times_root negated ◌⊕◌ ◌⊗◌ one_coefficient zero_coefficient coefficient
+unfolding product adjoint matrix imaginary identity_times times_one scale_of root
 gates_can_be_undone I = (refl, refl)
 gates_can_be_undone X = (refl, refl)
 gates_can_be_undone Y = (refl, refl)
@@ -89,7 +89,6 @@ gate-product m n q v x =
         ∙ ap (λ r. entry n b (v r) (v (with_bit q true (with_bit q b x)))) (with_bit_again q false b x) ∙ ap (λ r. entry n b low (v r)) (with_bit_again q true b x)
 
 sum_absent : (y : Coefficient) → y ⊕ zero_coefficient ≡ y
-unfolding ◌⊕◌ zero_coefficient coefficient
 sum_absent y = same_coordinates _ _ (omega (arith, ints)) (omega (arith, ints)) (omega (arith, ints)) (omega (arith, ints))
 
 -- n times the identity takes each coefficient n times
@@ -98,8 +97,8 @@ unfolding gate entry identity_times
 gate-identity_times n q v x = by (is_set q x) ∙ ap (λ r. times_one n ⊗ v r) (with_own_bit q x)
   where
     by : (b : Bool) → entry (identity_times n) b (v (with_bit q false x)) (v (with_bit q true x)) ≡ times_one n ⊗ v (with_bit q b x)
-    by false = ap (λ t. times_one n ⊗ v (with_bit q false x) ⊕ t) (zero_coefficient-⊗ (v (with_bit q true x))) ∙ sum_absent _
-    by true = ap (λ t. t ⊕ times_one n ⊗ v (with_bit q true x)) (zero_coefficient-⊗ (v (with_bit q false x))) ∙ ⊕_comm zero_coefficient _ ∙ sum_absent _
+    by false = ap (λ t. times_one n ⊗ v (with_bit q false x) ⊕ t) (zero_coefficient-⊗ (v (with_bit q true x))) ∙ sum_absent (times_one n ⊗ v (with_bit q false x))
+    by true = ap (λ t. t ⊕ times_one n ⊗ v (with_bit q true x)) (zero_coefficient-⊗ (v (with_bit q false x))) ∙ ⊕_comm zero_coefficient (times_one n ⊗ v (with_bit q true x)) ∙ sum_absent (times_one n ⊗ v (with_bit q true x))
 
 pub adjoints_undo_gates : AdjointsUndoGates
 adjoints_undo_gates g q v x = gate-product (adjoint (matrix g)) (matrix g) q v x ∙ ap (λ m. gate m q v x) ((gates_can_be_undone g).0) ∙ gate-identity_times (scale_of g) q v x

@@ -16,27 +16,23 @@ same_matrix m n a b c d = λ i. record { zero_zero = a i; zero_one = b i; one_ze
 
 -- ---- conjugates
 conjugate-⊕ : (y z : Coefficient) → conjugate (y ⊕ z) ≡ conjugate y ⊕ conjugate z
-unfolding conjugate ◌⊕◌ coefficient
 conjugate-⊕ y z = same_coordinates _ _ (omega (arith, ints)) (omega (arith, ints)) (omega (arith, ints)) (omega (arith, ints))
 
 conjugate-negated : (z : Coefficient) → conjugate (negated z) ≡ negated (conjugate z)
-unfolding conjugate negated coefficient
 conjugate-negated z = same_coordinates _ _ (omega (arith, ints)) (omega (arith, ints)) (omega (arith, ints)) (omega (arith, ints))
 
 conjugate_unit : conjugate one_coefficient ≡ one_coefficient
-unfolding conjugate one_coefficient coefficient
 conjugate_unit = refl
 
 conjugate_imaginary : conjugate imaginary ≡ negated imaginary
-unfolding conjugate imaginary negated root times_root one_coefficient coefficient
+unfolding imaginary root
 conjugate_imaginary = refl
 
 conjugate_imaginary_negated : conjugate (negated imaginary) ≡ imaginary
-unfolding conjugate imaginary negated root times_root one_coefficient coefficient
+unfolding imaginary root
 conjugate_imaginary_negated = refl
 
 conjugate_turned : (z : Coefficient) → conjugate (times_root z) ⊗ times_root z ≡ conjugate z ⊗ z
-unfolding conjugate times_root ◌⊗◌ coefficient
 conjugate_turned z = same_coordinates _ _
     (simp expand (omega (arith, same_in, sum_is_lem, neg_is)))
     (simp expand (omega (arith, same_in, sum_is_lem, neg_is)))
@@ -46,12 +42,11 @@ conjugate_turned z = same_coordinates _ _
 -- a power of w times its conjugate is one
 pub conjugate-root : (k : ℕ) → conjugate (root k) ⊗ root k ≡ one_coefficient
 unfolding root
-conjugate-root zero = unfold conjugate ◌⊗◌ one_coefficient coefficient in refl
+conjugate-root zero = refl
 conjugate-root (suc k) = conjugate_turned (root k) ∙ conjugate-root k
 
 -- ---- the rotations
 same_signs : (e c f z : Coefficient) → (e ⊕ c) ⊗ (f ⊕ z) ⊕ (e ⊕ negated c) ⊗ (f ⊕ negated z) ≡ (e ⊗ f ⊕ c ⊗ z) ⊕ (e ⊗ f ⊕ c ⊗ z)
-unfolding ◌⊕◌ ◌⊗◌ negated coefficient
 same_signs e c f z = same_coordinates _ _
     (simp expand (omega (arith, same_in, sum_is_lem, neg_is)))
     (simp expand (omega (arith, same_in, sum_is_lem, neg_is)))
@@ -59,7 +54,6 @@ same_signs e c f z = same_coordinates _ _
     (simp expand (omega (arith, same_in, sum_is_lem, neg_is)))
 
 other_signs : (e c f z : Coefficient) → (e ⊕ c) ⊗ (f ⊕ negated z) ⊕ (e ⊕ negated c) ⊗ (f ⊕ z) ≡ (e ⊗ f ⊕ negated (c ⊗ z)) ⊕ (e ⊗ f ⊕ negated (c ⊗ z))
-unfolding ◌⊕◌ ◌⊗◌ negated coefficient
 other_signs e c f z = same_coordinates _ _
     (simp expand (omega (arith, same_in, sum_is_lem, neg_is)))
     (simp expand (omega (arith, same_in, sum_is_lem, neg_is)))
@@ -67,11 +61,10 @@ other_signs e c f z = same_coordinates _ _
     (simp expand (omega (arith, same_in, sum_is_lem, neg_is)))
 
 four_units : (one_coefficient ⊗ one_coefficient ⊕ one_coefficient) ⊕ (one_coefficient ⊗ one_coefficient ⊕ one_coefficient) ≡ times_one 4
-unfolding ◌⊕◌ ◌⊗◌ one_coefficient coefficient times_one
+unfolding times_one
 four_units = refl
 
 no_units : (one_coefficient ⊗ one_coefficient ⊕ negated one_coefficient) ⊕ (one_coefficient ⊗ one_coefficient ⊕ negated one_coefficient) ≡ zero_coefficient
-unfolding ◌⊕◌ ◌⊗◌ negated one_coefficient coefficient zero_coefficient
 no_units = refl
 
 diagonal_is : (c z : Coefficient) → c ⊗ z ≡ one_coefficient → (one_coefficient ⊕ c) ⊗ (one_coefficient ⊕ z) ⊕ (one_coefficient ⊕ negated c) ⊗ (one_coefficient ⊕ negated z) ≡ times_one 4
@@ -95,8 +88,8 @@ unfolding product turn_x identity_times
 turn_x-undone c z e = same_matrix _ _
     (diagonal_is c z e)
     (other_is c z e)
-    (⊕_comm _ _ ∙ other_is c z e)
-    (⊕_comm _ _ ∙ diagonal_is c z e)
+    (⊕_comm ((one_coefficient ⊕ negated c) ⊗ (one_coefficient ⊕ z)) ((one_coefficient ⊕ c) ⊗ (one_coefficient ⊕ negated z)) ∙ other_is c z e)
+    (⊕_comm ((one_coefficient ⊕ negated c) ⊗ (one_coefficient ⊕ negated z)) ((one_coefficient ⊕ c) ⊗ (one_coefficient ⊕ z)) ∙ diagonal_is c z e)
 
 -- a factor common to both terms
 common : (k a b c d : Coefficient) → a ⊗ (k ⊗ b) ⊕ (k ⊗ c) ⊗ d ≡ k ⊗ (a ⊗ b ⊕ c ⊗ d)
@@ -108,16 +101,16 @@ unfolding product turn_y identity_times
 turn_y-undone c z e = same_matrix _ _
     (ap (λ t. (one_coefficient ⊕ c) ⊗ (one_coefficient ⊕ z) ⊕ t) (turned_back (one_coefficient ⊕ negated c) (one_coefficient ⊕ negated z)) ∙ diagonal_is c z e)
     (common (negated imaginary) (one_coefficient ⊕ c) (one_coefficient ⊕ negated z) (one_coefficient ⊕ negated c) (one_coefficient ⊕ z) ∙ ap (λ t. negated imaginary ⊗ t) (other_is c z e) ∙ ⊗-zero_coefficient (negated imaginary))
-    (⊕_comm _ _ ∙ common imaginary (one_coefficient ⊕ c) (one_coefficient ⊕ negated z) (one_coefficient ⊕ negated c) (one_coefficient ⊕ z) ∙ ap (λ t. imaginary ⊗ t) (other_is c z e) ∙ ⊗-zero_coefficient imaginary)
-    (ap (λ t. t ⊕ (one_coefficient ⊕ c) ⊗ (one_coefficient ⊕ z)) (⊗_comm _ _ ∙ turned_back (one_coefficient ⊕ negated z) (one_coefficient ⊕ negated c) ∙ ⊗_comm _ _) ∙ ⊕_comm _ _ ∙ diagonal_is c z e)
+    (⊕_comm ((imaginary ⊗ (one_coefficient ⊕ negated c)) ⊗ (one_coefficient ⊕ z)) ((one_coefficient ⊕ c) ⊗ (imaginary ⊗ (one_coefficient ⊕ negated z))) ∙ common imaginary (one_coefficient ⊕ c) (one_coefficient ⊕ negated z) (one_coefficient ⊕ negated c) (one_coefficient ⊕ z) ∙ ap (λ t. imaginary ⊗ t) (other_is c z e) ∙ ⊗-zero_coefficient imaginary)
+    (ap (λ t. t ⊕ (one_coefficient ⊕ c) ⊗ (one_coefficient ⊕ z)) (⊗_comm (imaginary ⊗ (one_coefficient ⊕ negated c)) (negated imaginary ⊗ (one_coefficient ⊕ negated z)) ∙ turned_back (one_coefficient ⊕ negated z) (one_coefficient ⊕ negated c) ∙ ⊗_comm (one_coefficient ⊕ negated z) (one_coefficient ⊕ negated c)) ∙ ⊕_comm ((one_coefficient ⊕ negated c) ⊗ (one_coefficient ⊕ negated z)) ((one_coefficient ⊕ c) ⊗ (one_coefficient ⊕ z)) ∙ diagonal_is c z e)
 
 pub turn_z-undone : (c z : Coefficient) → c ⊗ z ≡ one_coefficient → product (turn_z c) (turn_z z) ≡ identity_times 1
 unfolding product turn_z identity_times times_one
 turn_z-undone c z e = same_matrix _ _
-    (unfold ◌⊕◌ ◌⊗◌ zero_coefficient one_coefficient coefficient in refl)
-    (ap (λ t. one_coefficient ⊗ zero_coefficient ⊕ t) (⊗_comm zero_coefficient z ∙ ⊗-zero_coefficient z) ∙ unfold ◌⊕◌ ◌⊗◌ zero_coefficient one_coefficient coefficient in refl)
-    (ap (λ t. zero_coefficient ⊗ one_coefficient ⊕ t) (⊗-zero_coefficient c) ∙ unfold ◌⊕◌ ◌⊗◌ zero_coefficient one_coefficient coefficient in refl)
-    (ap (λ t. zero_coefficient ⊗ zero_coefficient ⊕ t) e ∙ unfold ◌⊕◌ ◌⊗◌ zero_coefficient one_coefficient coefficient in refl)
+    (refl)
+    (ap (λ t. one_coefficient ⊗ zero_coefficient ⊕ t) (⊗_comm zero_coefficient z ∙ ⊗-zero_coefficient z) ∙ refl)
+    (ap (λ t. zero_coefficient ⊗ one_coefficient ⊕ t) (⊗-zero_coefficient c) ∙ refl)
+    (ap (λ t. zero_coefficient ⊗ zero_coefficient ⊕ t) e ∙ refl)
 
 conjugate_sum : (z : Coefficient) → conjugate (one_coefficient ⊕ z) ≡ one_coefficient ⊕ conjugate z
 conjugate_sum z = conjugate-⊕ one_coefficient z ∙ ap (λ t. t ⊕ conjugate z) conjugate_unit
@@ -142,4 +135,4 @@ unfolding adjoint turn_z
 turn_z-adjoint z = same_matrix _ _ conjugate_unit conjugate_absent conjugate_absent refl
   where
     conjugate_absent : conjugate zero_coefficient ≡ zero_coefficient
-    conjugate_absent = unfold conjugate zero_coefficient coefficient in refl
+    conjugate_absent = refl

@@ -3,6 +3,7 @@ use Rattle.std.specs.Prelude.{ℕ, ◌+◌, ◌*◌, Bool, false, nat_lt, ℤ, p
 use Prim.Native.Nat.{zero, suc}
 
 infixl 6 ◌⊕◌
+infixl 6 ◌⊖◌
 infixl 7 ◌⊗◌
 -- a + b w + c w² + d w³, where w is the eighth root of unity: w⁴ = -1
 pub record Coefficient : Type 0 where
@@ -12,23 +13,27 @@ pub record Coefficient : Type 0 where
   pub d : ℤ
 
 -- the coefficient of four coordinates
-unfoldable pub coefficient : ℤ → ℤ → ℤ → ℤ → Coefficient
+abbrev pub coefficient : ℤ → ℤ → ℤ → ℤ → Coefficient
 coefficient a b c d = record { a = a; b = b; c = c; d = d }
 
 -- the coefficient of an absent row
-unfoldable pub zero_coefficient : Coefficient
+abbrev pub zero_coefficient : Coefficient
 zero_coefficient = coefficient (pos 0) (pos 0) (pos 0) (pos 0)
 
 -- the number one
-unfoldable pub one_coefficient : Coefficient
+abbrev pub one_coefficient : Coefficient
 one_coefficient = coefficient (pos 1) (pos 0) (pos 0) (pos 0)
 
 -- the sum, coordinate by coordinate
-unfoldable pub ◌⊕◌ : Coefficient → Coefficient → Coefficient
+abbrev pub ◌⊕◌ : Coefficient → Coefficient → Coefficient
 y ⊕ z = coefficient (y.a +ℤ z.a) (y.b +ℤ z.b) (y.c +ℤ z.c) (y.d +ℤ z.d)
 
+-- the difference, coordinate by coordinate
+abbrev pub ◌⊖◌ : Coefficient → Coefficient → Coefficient
+y ⊖ z = coefficient (y.a -ℤ z.a) (y.b -ℤ z.b) (y.c -ℤ z.c) (y.d -ℤ z.d)
+
 -- the product, by w⁴ = -1
-unfoldable pub ◌⊗◌ : Coefficient → Coefficient → Coefficient
+abbrev pub ◌⊗◌ : Coefficient → Coefficient → Coefficient
 y ⊗ z = coefficient
     (y.a *ℤ z.a -ℤ y.b *ℤ z.d -ℤ y.c *ℤ z.c -ℤ y.d *ℤ z.b)
     (y.a *ℤ z.b +ℤ y.b *ℤ z.a -ℤ y.c *ℤ z.d -ℤ y.d *ℤ z.c)
@@ -36,15 +41,15 @@ y ⊗ z = coefficient
     (y.a *ℤ z.d +ℤ y.b *ℤ z.c +ℤ y.c *ℤ z.b +ℤ y.d *ℤ z.a)
 
 -- the value times -1
-unfoldable pub negated : Coefficient → Coefficient
+abbrev pub negated : Coefficient → Coefficient
 negated z = coefficient (neg_ℤ z.a) (neg_ℤ z.b) (neg_ℤ z.c) (neg_ℤ z.d)
 
 -- the complex conjugate
-unfoldable pub conjugate : Coefficient → Coefficient
+abbrev pub conjugate : Coefficient → Coefficient
 conjugate z = coefficient z.a (neg_ℤ z.d) (neg_ℤ z.c) (neg_ℤ z.b)
 
 -- the value times w
-unfoldable pub times_root : Coefficient → Coefficient
+abbrev pub times_root : Coefficient → Coefficient
 times_root z = coefficient (neg_ℤ z.d) z.a z.b z.c
 
 -- w to the power k
@@ -62,26 +67,26 @@ pub record Weight : Type 0 where
   pub y : ℤ
 
 -- the squared absolute value of a coefficient
-unfoldable pub weight : Coefficient → Weight
+abbrev pub weight : Coefficient → Weight
 weight z = record {
   x = z.a *ℤ z.a +ℤ z.b *ℤ z.b +ℤ z.c *ℤ z.c +ℤ z.d *ℤ z.d;
   y = z.a *ℤ z.b +ℤ z.b *ℤ z.c +ℤ z.c *ℤ z.d -ℤ z.d *ℤ z.a;
 }
 
 -- the weight 0
-unfoldable pub no_weight : Weight
+abbrev pub no_weight : Weight
 no_weight = record { x = pos 0; y = pos 0 }
 
 -- the sum of two weights
-unfoldable pub weight_sum : Weight → Weight → Weight
+abbrev pub weight_sum : Weight → Weight → Weight
 weight_sum p q = record { x = p.x +ℤ q.x; y = p.y +ℤ q.y }
 
 -- n times a weight
-unfoldable pub scaled : ℕ → Weight → Weight
+abbrev pub scaled : ℕ → Weight → Weight
 scaled n p = record { x = pos n *ℤ p.x; y = pos n *ℤ p.y }
 
 -- the first weight less the second
-unfoldable pub weight_difference : Weight → Weight → Weight
+abbrev pub weight_difference : Weight → Weight → Weight
 weight_difference p q = record { x = p.x -ℤ q.x; y = p.y -ℤ q.y }
 
 -- whether x + y √2 is above 0, by the signs of x and y and the squares x² and 2 y²
