@@ -1,5 +1,5 @@
 use Rattle.std.proofs.Common.{append_assoc}
-use Rattle.cqc_wire.proofs.put_body.Goals as goal
+use Rattle.cqc_wire.proofs.replies.put_body.Goals as goal
 
 pub returns-in-Pair-clause-bytes : goal.returns-in-Pair-clause-bytes
 returns-in-Pair-clause-bytes c =

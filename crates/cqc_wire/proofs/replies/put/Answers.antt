@@ -1,6 +1,6 @@
 use Rattle.std.proofs.Common.{arith}
 use Rattle.std.proofs.lemmas.Slice.{drop-put_mid}
-use Rattle.cqc_wire.proofs.put.Goals as goal
+use Rattle.cqc_wire.proofs.replies.put.Goals as goal
 
 pub returns-clause-behind : goal.returns-clause-behind
 returns-clause-behind c =
