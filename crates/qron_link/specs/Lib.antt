@@ -1,2 +1,4 @@
 pub mod Outside
 pub mod MemLinks
+pub mod Dices
+pub mod Pipes

@@ -6,9 +6,13 @@ use Rattle.qron_link.specs.declared.outside.Got.TheVariants as got
 use Rattle.qron_link.specs.declared.outside.Put.{Put}
 use Rattle.qron_link.specs.declared.outside.Put.TheVariants as put
 
+-- a count that went up by one, or stands at its last value
+abbrev pub next_count : ℕ → ℕ
+next_count before = min (before + 1) (2 ^ 64 - 1)
+
 -- a count of faults rose, or stands at its last value
 abbrev pub Rose : ℕ → ℕ → Type 0
-Rose before now = min (before + 1) (2 ^ 64 - 1) ≤ now
+Rose before now = next_count before ≤ now
 
 -- these bytes were read: they stood in front of what was left, where that is told
 abbrev pub WasRead : Option (List ℕ) → List ℕ → Option (List ℕ) → Type 0
@@ -38,6 +42,7 @@ abbrev pub WriteDid : Put → Option (List ℕ) → Option (List ℕ) → List �
 WriteDid (put.Bytes n) old new piece = (0 < n) × (n ≤ length piece) × WasWritten old (take n piece) new
 WriteDid put.Failed old new piece = new ≡ old
 
+-- a write failed only where the count of faults rose
 abbrev pub WriteCause : Put → ℕ → ℕ → Type 0
 WriteCause put.Failed before now = (before ≤ now) × Rose before now
 WriteCause _ before now = before ≤ now
