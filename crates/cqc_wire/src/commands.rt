@@ -3,6 +3,7 @@ ghost use Rattle.std.specs.Prelude.{◌≡◌, ◌+◌, ◌<◌, ◌≤◌, ◌�
 ghost use Rattle.cqc_model.specs.Plan.{commands, command_fault, command_of, command_size, extra_size, has_option, is_built_instr, is_unknown, instr_of, remote_of, number_of, body_limit};
 ghost use Rattle.cqc_wire.specs.Body.{command_count};
 
+use crate::number;
 use cqc_model::{BodyFault, Command, Instr, Remote};
 
 /// The bytes of a command without its extra header: qubit (2), instruction (1), options (1).
@@ -114,7 +115,7 @@ fn is_known(number: u8) -> bool
 fn is_built(number: u8) -> bool
     ensures { result ≡ is_built_instr number }
 {
-    matches!(number, 1 | 2 | 17)
+    matches!(number, number::NEW | number::MEASURE | number::H)
 }
 
 // The bytes of an instruction's extra header: a rotation's step, another qubit, or a remote application.
@@ -122,10 +123,12 @@ fn extra_size_of(number: u8) -> Option<usize>
     ensures { result ≡ extra_size number }
 {
     match number {
-        0..=4 | 6 | 8 | 10..=13 | 17 | 18 | 22 | 23 => Some(0),
-        14..=16 => Some(1),
-        20 | 21 => Some(2),
-        5 | 7 => Some(8),
+        number::I..=number::RESET | number::RECV | number::EPR_RECV => Some(0),
+        number::X..=number::T | number::H | number::K => Some(0),
+        number::ALLOCATE | number::RELEASE => Some(0),
+        number::ROT_X..=number::ROT_Z => Some(1),
+        number::CNOT | number::CPHASE => Some(2),
+        number::SEND | number::EPR => Some(8),
         _ => None,
     }
 }
@@ -171,27 +174,27 @@ fn instr_in(number: u8, extra: &[u8]) -> Instr
     ensures { result ≡ instr_of number extra.now }
 {
     match number {
-        1 => Instr::New,
-        2 => Instr::Measure,
-        3 => Instr::MeasureInplace,
-        4 => Instr::Reset,
-        5 => Instr::Send(remote_in(extra)),
-        6 => Instr::Recv,
-        7 => Instr::Epr(remote_in(extra)),
-        8 => Instr::EprRecv,
-        10 => Instr::X,
-        11 => Instr::Z,
-        12 => Instr::Y,
-        13 => Instr::T,
-        14 => Instr::RotX(extra[0]),
-        15 => Instr::RotY(extra[0]),
-        16 => Instr::RotZ(extra[0]),
-        17 => Instr::H,
-        18 => Instr::K,
-        20 => Instr::Cnot(number_in(extra)),
-        21 => Instr::Cphase(number_in(extra)),
-        22 => Instr::Allocate,
-        23 => Instr::Release,
+        number::NEW => Instr::New,
+        number::MEASURE => Instr::Measure,
+        number::MEASURE_INPLACE => Instr::MeasureInplace,
+        number::RESET => Instr::Reset,
+        number::SEND => Instr::Send(remote_in(extra)),
+        number::RECV => Instr::Recv,
+        number::EPR => Instr::Epr(remote_in(extra)),
+        number::EPR_RECV => Instr::EprRecv,
+        number::X => Instr::X,
+        number::Z => Instr::Z,
+        number::Y => Instr::Y,
+        number::T => Instr::T,
+        number::ROT_X => Instr::RotX(extra[0]),
+        number::ROT_Y => Instr::RotY(extra[0]),
+        number::ROT_Z => Instr::RotZ(extra[0]),
+        number::H => Instr::H,
+        number::K => Instr::K,
+        number::CNOT => Instr::Cnot(number_in(extra)),
+        number::CPHASE => Instr::Cphase(number_in(extra)),
+        number::ALLOCATE => Instr::Allocate,
+        number::RELEASE => Instr::Release,
         _ => Instr::I,
     }
 }

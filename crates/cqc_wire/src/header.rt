@@ -16,11 +16,14 @@ pub fn read_header(bytes: &[u8; 8]) -> Header
     }
 }
 
+// The version of each reply.
+const VERSION: u8 = 2;
+
 // The bytes of a header of version 2: the type, the app, and the length of what follows.
 pub(crate) fn header_bytes(kind: u8, app: u16, size: u32) -> [u8; 8]
     ensures { result ≡ spell_header kind app size }
 {
     let a = app.to_be_bytes();
     let s = size.to_be_bytes();
-    [2, kind, a[0], a[1], s[0], s[1], s[2], s[3]]
+    [VERSION, kind, a[0], a[1], s[0], s[1], s[2], s[3]]
 }

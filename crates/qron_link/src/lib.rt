@@ -12,3 +12,6 @@ pub use dice::{Dice, ListDice};
 pub use mem_link::MemLink;
 pub use outside::{Got, Link, Put, Sink, Source, read_link, write_link};
 pub use pipe::{NotSent, Pipe, StdPipe};
+
+#[cfg(test)]
+mod tests;

@@ -1,7 +1,6 @@
 // A reader and a writer as one link, with buffers.
-ghost use Rattle.std.specs.Prelude.{◌≡◌, ◌≤◌, length, None, IfOk, OnOk, OnErr};
-ghost use Rattle.qron_link.specs.Outside.{Rose};
-ghost use Rattle.qron_link.specs.Pipes.{Counts};
+ghost use Rattle.std.specs.Prelude.{◌≡◌, ◌<◌, ◌≤◌, length, None, IfOk, OnOk, OnErr};
+ghost use Rattle.qron_link.specs.Pipes.{Counts, with_write_fault};
 
 use crate::{Got, Link, Put, Sink, Source};
 use std::alloc::{AllocError, Global};
@@ -38,6 +37,7 @@ impl<R: Read + Drop, W: Write + Drop> Model for Pipe<R, W> {
 }
 
 impl<R: Read + Drop, W: Write + Drop> Pipe<R, W> {
+    /// A pipe that did not fail yet, with a buffer for each side.
     pub fn new(alloc: Global, input: R, output: W) -> Result<Pipe<R, W>, AllocError>
         ensures { IfOk result (λ pipe. pipe ≡ record { reads = 0; writes = 0 }) }
     {
@@ -58,8 +58,7 @@ impl<R: Read + Drop, W: Write + Drop> Pipe<R, W> {
     /// Sends what was gathered. What can't be sent stays, and the next call tries again.
     pub fn flush(&mut self) -> Result<(), NotSent>
         ensures sent { OnOk result (self.new ≡ self.old) }
-        ensures failed { OnErr result (Rose self.old.writes self.new.writes) }
-        ensures reads { self.new.reads ≡ self.old.reads }
+        ensures failed { OnErr result (self.new ≡ with_write_fault self.old) }
     {
         match self.output.flush() {
             Ok(()) => Ok(()),
@@ -92,13 +91,22 @@ fn send<W: Write + Drop>(output: &mut BufWriter<W>, piece: &[u8]) -> io::Result<
 }
 
 impl<R: Read + Drop, W: Write + Drop> Source for Pipe<R, W> {
+    ghost use Rattle.qron_link.specs.Outside.{ReadDid, ReadCause};
+    ghost use Rattle.qron_link.specs.Pipes.{counts_after_read};
+
     ghost left = { λ _. None };
 
     ghost read_faults = { λ p. p.reads };
 
     ghost was_read = { λ a b. b.writes ≡ a.writes };
 
-    fn read(&mut self, room: &mut [u8]) -> Got {
+    fn read(&mut self, room: &mut [u8]) -> Got
+        requires { 0 < length room.old }
+        ensures bytes { ReadDid result None None room.new }
+        ensures cause { ReadCause result self.old.reads self.new.reads }
+        ensures step { self.new.writes ≡ self.old.writes }
+        ensures counts { self.new ≡ counts_after_read result self.old }
+    {
         let got = if self.input.buffer().is_empty() {
             read_on(&mut self.input, &mut self.output, room)
         } else {
@@ -116,13 +124,22 @@ impl<R: Read + Drop, W: Write + Drop> Source for Pipe<R, W> {
 }
 
 impl<R: Read + Drop, W: Write + Drop> Sink for Pipe<R, W> {
+    ghost use Rattle.qron_link.specs.Outside.{WriteDid, WriteCause};
+    ghost use Rattle.qron_link.specs.Pipes.{counts_after_write};
+
     ghost held = { λ _. None };
 
     ghost write_faults = { λ p. p.writes };
 
     ghost was_written = { λ a b. b.reads ≡ a.reads };
 
-    fn write(&mut self, piece: &[u8]) -> Put {
+    fn write(&mut self, piece: &[u8]) -> Put
+        requires { 0 < length piece.now }
+        ensures bytes { WriteDid result None None piece.now }
+        ensures cause { WriteCause result self.old.writes self.new.writes }
+        ensures step { self.new.reads ≡ self.old.reads }
+        ensures counts { self.new ≡ counts_after_write result self.old }
+    {
         let written = if self.input.buffer().is_empty() {
             send(&mut self.output, piece)
         } else {
