@@ -1,0 +1,4 @@
+pub mod Outside
+pub mod MemLinks
+pub mod Dices
+pub mod Pipes

@@ -1,0 +1,128 @@
+// Links in memory, dice, and pipes over a reader and a writer of the tests' own.
+use super::*;
+use std::alloc::Global;
+use std::cell::Cell;
+use std::io::{self, ErrorKind, Write};
+use std::rc::Rc;
+
+#[test]
+fn links_hand_out_pieces_and_fail_where_listed(rt: HostRuntime) {
+    let alloc = rt.alloc();
+    let bytes = vec![in alloc; 1, 2, 3].expect(&rt, "bytes");
+    let bad_reads = vec![in alloc; 1].expect(&rt, "numbers");
+    let bad_writes = vec![in alloc; 0].expect(&rt, "numbers");
+    let mut link = MemLink::new(alloc, bytes, 2, 3, bad_reads, bad_writes).expect(&rt, "link");
+    let mut room = [9; 8];
+    assert!(rt; matches!(link.read(&mut room), Got::Bytes(2)));
+    assert!(rt; room == [1, 2, 9, 9, 9, 9, 9, 9]);
+    assert!(rt; matches!(link.read(&mut room), Got::Failed));
+    assert!(rt; matches!(link.read(&mut room), Got::Bytes(1)));
+    assert!(rt; matches!(link.read(&mut room), Got::End));
+    assert!(rt; matches!(link.write(&[4, 5]), Put::Failed));
+    assert!(rt; matches!(link.write(&[4, 5]), Put::Bytes(2)));
+    assert!(rt; matches!(link.write(&[6, 7]), Put::Bytes(1)));
+    assert!(rt; matches!(link.write(&[7]), Put::Failed));
+    link.close();
+    assert!(rt; link.written() == [4, 5, 6].as_slice());
+}
+
+#[test]
+fn generic_calls_read_and_write(rt: HostRuntime) {
+    let alloc = rt.alloc();
+    let bytes = vec![in alloc; 1, 2].expect(&rt, "bytes");
+    let mut link = MemLink::new(alloc, bytes, 8, 8, Vec::new(alloc), Vec::new(alloc)).expect(
+        &rt, "link",
+    );
+    let mut room = [0; 2];
+    assert!(rt; matches!(read_link(&mut link, &mut room), Got::Bytes(2)));
+    assert!(rt; matches!(write_link(&mut link, &room), Put::Bytes(2)));
+    assert!(rt; link.written() == [1, 2].as_slice());
+}
+
+#[test]
+fn listed_words_come_in_order_and_then_zeros(rt: HostRuntime) {
+    let words = vec![in rt.alloc(); 7, 8].expect(&rt, "words");
+    let mut dice = ListDice::new(words);
+    dice.begin(3, 4);
+    assert!(rt; [dice.next(), dice.next(), dice.next()] == [7, 8, 0]);
+    dice.begin(0, 0);
+    assert_eq!(rt; dice.next(), 7);
+}
+
+#[test]
+fn chacha_words_are_those_of_the_stream(rt: HostRuntime) {
+    let mut dice = ChaChaDice::new([0; 32]);
+    dice.begin(0, 0);
+    let first = [dice.next(), dice.next(), dice.next()];
+    assert!(rt;
+        first
+            == [
+                0x903d_f1a0_ade0_b876,
+                0x28bd_8653_e56a_5d40,
+                0x1aed_8da0_b819_d2bd
+            ]
+    );
+    dice.begin(0, 1);
+    assert!(rt; dice.next() != first[0]);
+    dice.begin(0, 0);
+    assert!(rt; [dice.next(), dice.next(), dice.next()] == first);
+}
+
+// A writer that counts its calls, and fails where it is broken.
+#[derive(Drop)]
+struct Counted {
+    calls: Rc<Cell<u32>>,
+    is_broken: bool,
+}
+
+impl Write for Counted {
+    fn write(&mut self, piece: &[u8]) -> io::Result<usize> {
+        self.calls.set(self.calls.get().saturating_add(1));
+        if self.is_broken {
+            return Err(ErrorKind::BrokenPipe.into());
+        }
+        Ok(piece.len())
+    }
+
+    fn flush(&mut self) -> io::Result<()> {
+        Ok(())
+    }
+}
+
+#[test]
+fn writes_are_gathered_while_input_waits(rt: HostRuntime) {
+    let alloc = rt.alloc();
+    let calls = Rc::new(alloc, Cell::new(0)).expect(&rt, "count");
+    let output = Counted {
+        calls: calls.clone().expect(&rt, "count"),
+        is_broken: false,
+    };
+    let mut pipe = Pipe::new(alloc, io::Cursor::new([0; 24]), output).expect(&rt, "pipe");
+    let mut room = [0; 8];
+    for wanted in [0, 0, 2] {
+        assert!(rt; matches!(pipe.read(&mut room), Got::Bytes(8)));
+        assert!(rt; matches!(pipe.write(&room), Put::Bytes(8)));
+        assert_eq!(rt; calls.get(), wanted);
+    }
+    assert!(rt; matches!(pipe.read(&mut room), Got::End));
+    assert!(rt; pipe.flush().is_ok());
+}
+
+#[test]
+fn what_cannot_be_sent_is_told(rt: HostRuntime) {
+    let alloc = rt.alloc();
+    let calls = Rc::new(alloc, Cell::new(0)).expect(&rt, "count");
+    let output = Counted {
+        calls,
+        is_broken: true,
+    };
+    let mut pipe = Pipe::new(alloc, io::Cursor::new([0; 16]), output).expect(&rt, "pipe");
+    let mut room = [0; 8];
+    assert!(rt; matches!(pipe.read(&mut room), Got::Bytes(8)));
+    assert!(rt; matches!(pipe.write(&room), Put::Bytes(8)));
+    assert!(rt; matches!(pipe.read(&mut room), Got::Bytes(8)));
+    assert!(rt; matches!(pipe.read(&mut room), Got::Failed));
+    assert!(rt; matches!(pipe.write(&room), Put::Failed));
+    pipe.close();
+    assert!(rt; pipe.flush().is_err());
+}
