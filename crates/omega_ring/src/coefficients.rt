@@ -1,6 +1,6 @@
 //! Coefficients in 64 and in 128 bits, and the operations of their ring.
 ghost use Rattle.std.specs.Prelude.{◌≡◌, ◌<◌, ◌^◌, IsSome, IfSome, ◌↔◌};
-ghost use Rattle.state_model.specs.Coefficient.{◌⊕◌, ◌⊖◌, ◌⊗◌, conjugate, root, weight};
+ghost use Rattle.state_model.specs.Coefficient.{◌⊕◌, ◌⊖◌, ◌⊗◌, conjugate, weight};
 ghost use Rattle.omega_ring.specs.Views.{omega_value, wide_value, weight_value};
 ghost use Rattle.omega_ring.specs.Range.{CoordinatesBelow, CoordinatesUpTo, FitsOmega};
 
@@ -35,59 +35,6 @@ impl Omega {
             b: self.b as i128,
             c: self.c as i128,
             d: self.d as i128,
-        }
-    }
-
-    /// The value times `w^k`, for k from 0 to 7. No coordinate may be the least i64.
-    pub fn times_root(self, k: u8) -> Omega
-        requires power { k < 8 }
-        requires range { CoordinatesBelow (2 ^ 63) (omega_value self) }
-        ensures { omega_value result ≡ omega_value self ⊗ root k }
-    {
-        match k {
-            0 => self,
-            1 => Omega {
-                a: -self.d,
-                b: self.a,
-                c: self.b,
-                d: self.c,
-            },
-            2 => Omega {
-                a: -self.c,
-                b: -self.d,
-                c: self.a,
-                d: self.b,
-            },
-            3 => Omega {
-                a: -self.b,
-                b: -self.c,
-                c: -self.d,
-                d: self.a,
-            },
-            4 => Omega {
-                a: -self.a,
-                b: -self.b,
-                c: -self.c,
-                d: -self.d,
-            },
-            5 => Omega {
-                a: self.d,
-                b: -self.a,
-                c: -self.b,
-                d: -self.c,
-            },
-            6 => Omega {
-                a: self.c,
-                b: self.d,
-                c: -self.a,
-                d: -self.b,
-            },
-            _ => Omega {
-                a: self.b,
-                b: self.c,
-                c: self.d,
-                d: -self.a,
-            },
         }
     }
 }

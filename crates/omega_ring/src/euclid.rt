@@ -11,14 +11,15 @@ ghost use Rattle.omega_ring.specs.Steps.{IsReady, IsNearest, inner, turn_back, c
 use crate::arithmetic::{exact, nearest, total_far};
 use crate::coefficients::{Omega, Wide};
 
-/// A common divisor of the entries that every common divisor divides, with a balanced weight.
-/// Some entry isn't zero, and each entry's sum of squares is below 2^61.
+/// A common divisor of the entries that every common divisor divides, with a balanced weight
+/// and coordinates below 2^31. Some entry isn't zero, and each entry's sum of squares is below 2^61.
 pub fn gcd_of(list: &[Omega]) -> Omega
     requires some { IsNonzero (omega_values list.now) }
     requires small { (i : ℕ) → (weight (at (omega_values list.now) i)).x <ℤ pos (2 ^ 61) }
     ensures common { DividesAll (omega_value result) (omega_values list.now) }
     ensures greatest { (u : Coefficient) → DividesAll u (omega_values list.now) → Divides u (omega_value result) }
     ensures balanced { IsBalanced (weight (omega_value result)) }
+    ensures small { CoordinatesBelow (2 ^ 31) (omega_value result) }
 {
     let mut common = Wide {
         a: 0,

@@ -7,6 +7,7 @@ mod balancing;
 mod coefficients;
 mod delta;
 mod euclid;
+mod roots;
 mod signs;
 mod units;
 mod weights;
@@ -16,3 +17,6 @@ pub use coefficients::{Omega, Wide};
 pub use euclid::gcd_of;
 pub use signs::Sign;
 pub use weights::Weight;
+
+#[cfg(test)]
+mod tests;

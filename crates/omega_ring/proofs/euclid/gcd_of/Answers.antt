@@ -4,6 +4,8 @@ use Rattle.state_model.specs.CoefficientList.{at}
 use Rattle.state_model.specs.Divisors.{Divides, IsBalanced}
 use Rattle.omega_ring.specs.Views.{omega_value, wide_value}
 use Rattle.state_model.proofs.Euclid.{divides_zero}
+use Rattle.omega_ring.specs.Range.{CoordinatesBelow}
+use Rattle.omega_ring.proofs.Sizes.{ready_small}
 use Rattle.omega_ring.proofs.Entries.{at_map, divides_more, divides_whole, greatest_more, zero_ready}
 use Rattle.omega_ring.proofs.euclid.gcd_of.Goals as goal
 
@@ -31,3 +33,6 @@ returns-clause-greatest c = λ u d. subst (Divides u) (sym c.short.ensures) (c.l
 
 pub returns-clause-balanced : goal.returns-clause-balanced
 returns-clause-balanced c = subst (λ (t : Coefficient). IsBalanced (weight t)) (sym c.short.ensures) (let r = c.loop-z.invariant.ready in r.balanced)
+
+pub returns-clause-small : goal.returns-clause-small
+returns-clause-small c = subst (CoordinatesBelow (2 ^ 31)) (sym c.short.ensures) (let s = ready_small (wide_value c.loop-z.common) c.loop-z.invariant.ready in s.coordinates)
