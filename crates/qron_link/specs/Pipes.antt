@@ -1,5 +1,5 @@
--- What contracts see of a pipe: how often it failed.
-use Rattle.std.specs.Prelude.{ℕ}
+-- What contracts see of a pipe: how often it failed, and what it has gathered.
+use Rattle.std.specs.Prelude.{ℕ, List}
 use Rattle.qron_link.specs.declared.outside.Got.{Got}
 use Rattle.qron_link.specs.declared.outside.Got.TheVariants as got
 use Rattle.qron_link.specs.declared.outside.Put.{Put}
@@ -10,6 +10,11 @@ use Rattle.qron_link.specs.Outside.{next_count}
 pub record Counts : Type 0 where
   pub reads : ℕ
   pub writes : ℕ
+
+-- a pipe: its counts, and the bytes that were written and not yet sent
+pub record Piped : Type 0 where
+  pub counts : Counts
+  pub gathered : List ℕ
 
 -- one read more failed
 abbrev pub with_read_fault : Counts → Counts

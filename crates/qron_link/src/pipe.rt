@@ -1,6 +1,7 @@
 // A reader and a writer as one link, with buffers.
-ghost use Rattle.std.specs.Prelude.{◌≡◌, ◌<◌, ◌≤◌, length, None, IfOk, OnOk, OnErr};
-ghost use Rattle.qron_link.specs.Pipes.{Counts, with_write_fault};
+ghost use Rattle.std.specs.Prelude.{◌≡◌, ◌<◌, ◌≤◌, length, [], None, IfOk, OnOk, OnErr};
+ghost use Rattle.std.specs.Io.Buffered.{writer_buffer};
+ghost use Rattle.qron_link.specs.Pipes.{Piped, with_write_fault};
 
 use crate::{Got, Link, Put, Sink, Source};
 use std::alloc::{AllocError, Global};
@@ -31,15 +32,15 @@ pub struct Pipe<R: Read + Drop, W: Write + Drop> {
 }
 
 impl<R: Read + Drop, W: Write + Drop> Model for Pipe<R, W> {
-    ghost Value = { Counts };
+    ghost Value = { Piped };
 
-    ghost view = { λ p. record { reads = p.read_faults; writes = p.write_faults } };
+    ghost view = { λ p. record { counts = record { reads = p.read_faults; writes = p.write_faults }; gathered = writer_buffer p.output } };
 }
 
 impl<R: Read + Drop, W: Write + Drop> Pipe<R, W> {
     /// A pipe that did not fail yet, with a buffer for each side.
     pub fn new(alloc: Global, input: R, output: W) -> Result<Pipe<R, W>, AllocError>
-        ensures { IfOk result (λ pipe. pipe ≡ record { reads = 0; writes = 0 }) }
+        ensures { IfOk result (λ pipe. pipe ≡ record { counts = record { reads = 0; writes = 0 }; gathered = [] }) }
     {
         let (Ok(input), Ok(output)) = (
             BufReader::with_capacity(alloc, BUFFER_SIZE, input),
@@ -57,8 +58,8 @@ impl<R: Read + Drop, W: Write + Drop> Pipe<R, W> {
 
     /// Sends what was gathered. What can't be sent stays, and the next call tries again.
     pub fn flush(&mut self) -> Result<(), NotSent>
-        ensures sent { OnOk result (self.new ≡ self.old) }
-        ensures failed { OnErr result (self.new ≡ with_write_fault self.old) }
+        ensures sent { OnOk result (self.new ≡ record self.old { gathered = [] }) }
+        ensures failed { OnErr result (self.new.counts ≡ with_write_fault self.old.counts) }
     {
         match self.output.flush() {
             Ok(()) => Ok(()),
@@ -96,16 +97,16 @@ impl<R: Read + Drop, W: Write + Drop> Source for Pipe<R, W> {
 
     ghost left = { λ _. None };
 
-    ghost read_faults = { λ p. p.reads };
+    ghost read_faults = { λ p. p.counts.reads };
 
-    ghost was_read = { λ a b. b.writes ≡ a.writes };
+    ghost was_read = { λ a b. b.counts.writes ≡ a.counts.writes };
 
     fn read(&mut self, room: &mut [u8]) -> Got
         requires { 0 < length room.old }
         ensures bytes { ReadDid result None None room.new }
-        ensures cause { ReadCause result self.old.reads self.new.reads }
-        ensures step { self.new.writes ≡ self.old.writes }
-        ensures counts { self.new ≡ counts_after_read result self.old }
+        ensures cause { ReadCause result self.old.counts.reads self.new.counts.reads }
+        ensures step { self.new.counts.writes ≡ self.old.counts.writes }
+        ensures counts { self.new.counts ≡ counts_after_read result self.old.counts }
     {
         let got = if self.input.buffer().is_empty() {
             read_on(&mut self.input, &mut self.output, room)
@@ -129,16 +130,16 @@ impl<R: Read + Drop, W: Write + Drop> Sink for Pipe<R, W> {
 
     ghost held = { λ _. None };
 
-    ghost write_faults = { λ p. p.writes };
+    ghost write_faults = { λ p. p.counts.writes };
 
-    ghost was_written = { λ a b. b.reads ≡ a.reads };
+    ghost was_written = { λ a b. b.counts.reads ≡ a.counts.reads };
 
     fn write(&mut self, piece: &[u8]) -> Put
         requires { 0 < length piece.now }
         ensures bytes { WriteDid result None None piece.now }
-        ensures cause { WriteCause result self.old.writes self.new.writes }
-        ensures step { self.new.reads ≡ self.old.reads }
-        ensures counts { self.new ≡ counts_after_write result self.old }
+        ensures cause { WriteCause result self.old.counts.writes self.new.counts.writes }
+        ensures step { self.new.counts.reads ≡ self.old.counts.reads }
+        ensures counts { self.new.counts ≡ counts_after_write result self.old.counts }
     {
         let written = if self.input.buffer().is_empty() {
             send(&mut self.output, piece)
