@@ -1,3 +1,4 @@
 pub mod Views
 pub mod Range
 pub mod Steps
+pub mod Powers

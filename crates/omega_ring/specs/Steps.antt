@@ -1,6 +1,6 @@
 -- What Euclid's steps compute on the way.
 use Rattle.std.specs.Prelude.{ℤ, pos, ◌+ℤ◌, ◌-ℤ◌, ◌*ℤ◌, neg_ℤ, ◌<ℤ◌, ◌^◌}
-use Rattle.state_model.specs.Coefficient.{Coefficient, coefficient, Weight, weight}
+use Rattle.state_model.specs.Coefficient.{Coefficient, coefficient, ◌⊗◌, conjugate, Weight, weight}
 use Rattle.state_model.specs.Divisors.{norm, IsBalanced}
 use Rattle.state_model.specs.Quotients.{IsHalf}
 
@@ -27,3 +27,7 @@ pub record IsNearest (n : ℤ) (t q : Coefficient) : Type 0 where
   pub b : IsHalf n (t.b -ℤ q.b *ℤ n)
   pub c : IsHalf n (t.c -ℤ q.c *ℤ n)
   pub d : IsHalf n (t.d -ℤ q.d *ℤ n)
+
+-- what is divided by the norm of u for the quotient of z by u
+abbrev pub numerator : Coefficient → Coefficient → Coefficient
+numerator z u = z ⊗ (conjugate u ⊗ conjugate_weight (weight u))

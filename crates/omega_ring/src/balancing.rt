@@ -1,7 +1,8 @@
 //! Balancing a weight by powers of 3 + 2 sqrt(2).
-ghost use Rattle.std.specs.Prelude.{◌≡◌, ℕ, ℤ, ◌<◌, ◌^◌, ◌+ℤ◌, ◌-ℤ◌, ◌*ℤ◌, ◌<ℤ◌, ◌≤ℤ◌, neg_ℤ, pos, unsigned_abs};
+ghost use Rattle.std.specs.Prelude.{◌≡◌, ℕ, ◌<◌, ◌^◌, ◌+ℤ◌, ◌-ℤ◌, ◌*ℤ◌, ◌<ℤ◌, ◌≤ℤ◌, neg_ℤ, pos, unsigned_abs};
 ghost use Rattle.state_model.specs.Divisors.{IsBalanced, weight_product, unit_power, unit_weight_down};
 ghost use Rattle.omega_ring.specs.Views.{weight_value};
+ghost use Rattle.omega_ring.specs.Powers.{IsFirstPower};
 
 use crate::weights::Weight;
 
@@ -21,7 +22,7 @@ impl Weight {
         requires real { (pos 2 *ℤ (self.y *ℤ self.y)) <ℤ (self.x *ℤ self.x) }
         ensures value { weight_value result.weight ≡ weight_product (weight_value self) (unit_power result.power) }
         ensures balanced { IsBalanced (weight_value result.weight) }
-        ensures first { (k : ℤ) → unsigned_abs k < unsigned_abs result.power → ¬ IsBalanced (weight_product (weight_value self) (unit_power k)) }
+        ensures first { IsFirstPower (weight_value self) result.power }
     {
         if self.y < 0 {
             self.balance_up()
@@ -37,7 +38,7 @@ impl Weight {
         requires sign { pos 0 ≤ℤ self.y }
         ensures value { weight_value result.weight ≡ weight_product (weight_value self) (unit_power result.power) }
         ensures balanced { IsBalanced (weight_value result.weight) }
-        ensures first { (k : ℤ) → unsigned_abs k < unsigned_abs result.power → ¬ IsBalanced (weight_product (weight_value self) (unit_power k)) }
+        ensures first { IsFirstPower (weight_value self) result.power }
     {
         let low = step_down(self.x, self.y);
         Balanced {
@@ -53,7 +54,7 @@ impl Weight {
         requires sign { self.y <ℤ pos 0 }
         ensures value { weight_value result.weight ≡ weight_product (weight_value self) (unit_power result.power) }
         ensures balanced { IsBalanced (weight_value result.weight) }
-        ensures first { (k : ℤ) → unsigned_abs k < unsigned_abs result.power → ¬ IsBalanced (weight_product (weight_value self) (unit_power k)) }
+        ensures first { IsFirstPower (weight_value self) result.power }
     {
         let low = step_down(self.x, -self.y);
         Balanced {
@@ -80,10 +81,12 @@ fn step_down(x: i128, y: i128) -> Lowered
     requires small { x <ℤ pos (2 ^ 122) }
     requires low { neg_ℤ (y +ℤ y) ≤ℤ x }
     requires real { (pos 2 *ℤ (y *ℤ y)) <ℤ (x *ℤ x) }
-    ensures value { record { x = result.x; y = result.y } ≡ weight_product record { x = x; y = y } (unit_weight_down result.steps) }
+    ensures value { record { x = result.x; y = result.y }
+        ≡ weight_product record { x = x; y = y } (unit_weight_down result.steps) }
     ensures balanced { IsBalanced record { x = result.x; y = result.y } }
     ensures done { (y +ℤ y) ≤ℤ x → result.steps ≡ 0 }
-    ensures first { (k : ℕ) → k < result.steps → ¬ IsBalanced (weight_product record { x = x; y = y } (unit_weight_down k)) }
+    ensures first { (k : ℕ) → k < result.steps
+        → ¬ IsBalanced (weight_product record { x = x; y = y } (unit_weight_down k)) }
     ensures steps { pos (2 ^ result.steps) ≤ℤ (x +ℤ x) }
     ensures few { result.steps < 124 }
 {

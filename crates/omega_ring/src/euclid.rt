@@ -1,12 +1,12 @@
 //! Greatest common divisors by Euclid's steps, each of which divides with a rounded quotient.
 ghost use Rattle.std.specs.Prelude.{◌≡◌, ◌≢◌, ℕ, map, ◌<◌, ◌*◌, ◌^◌, ◌<ℤ◌, pos, unsigned_abs, IsTrue, ◌↔◌};
-ghost use Rattle.state_model.specs.Coefficient.{Coefficient, zero_coefficient, ◌⊗◌, conjugate, weight};
+ghost use Rattle.state_model.specs.Coefficient.{Coefficient, zero_coefficient, ◌⊗◌, weight};
 ghost use Rattle.state_model.specs.Divisors.{Divides, IsBalanced, norm};
 ghost use Rattle.state_model.specs.CoefficientList.{at, DividesAll, IsNonzero};
 ghost use Rattle.state_model.specs.Quotients.{IsRemainder, IsGreatest};
 ghost use Rattle.omega_ring.specs.Views.{omega_value, omega_values, wide_value};
 ghost use Rattle.omega_ring.specs.Range.{CoordinatesBelow, CoordinatesUpTo};
-ghost use Rattle.omega_ring.specs.Steps.{IsReady, IsNearest, inner, turn_back, conjugate_weight};
+ghost use Rattle.omega_ring.specs.Steps.{IsReady, IsNearest, inner, turn_back, numerator};
 
 use crate::arithmetic::{exact, nearest, total_far};
 use crate::coefficients::{Omega, Wide};
@@ -80,7 +80,7 @@ impl Wide {
         requires left { IsReady (wide_value self) }
         requires right { IsReady (wide_value u) }
         requires nonzero { wide_value u ≢ zero_coefficient }
-        ensures nearest { IsNearest (norm (wide_value u)) (wide_value self ⊗ (conjugate (wide_value u) ⊗ conjugate_weight (weight (wide_value u)))) (wide_value result) }
+        ensures nearest { IsNearest (norm (wide_value u)) (numerator (wide_value self) (wide_value u)) (wide_value result) }
         ensures small { CoordinatesBelow (2 ^ 36) (wide_value result) }
     {
         let w = u.weight();
