@@ -1,6 +1,8 @@
 -- The laws of vectors, gates, measurements and parts as statements.
-use Rattle.std.specs.Prelude.{ℕ, ◌≡◌, ◌<◌, ◌^◌, Bool, true, false, not, cond, ◌≢◌, List, [], ◌∷◌}
-use Rattle.state_model.specs.Coefficient.{zero_coefficient, one_coefficient, ◌⊗◌}
+use Rattle.std.specs.Prelude.{ℕ, ◌≡◌, ◌<◌, ◌^◌, Bool, true, false, not, cond, ◌≢◌, ◌≤ℤ◌, List, [], ◌∷◌, length}
+use Rattle.state_model.specs.Coefficient.{Coefficient, zero_coefficient, one_coefficient, ◌⊗◌}
+use Rattle.state_model.specs.Divisors.{Divides, IsBalanced}
+use Rattle.state_model.specs.CoefficientList.{at, IsReduced, IsProportional, total_weight}
 use Rattle.state_model.specs.Row.{is_set, is_listed, without}
 use Rattle.state_model.specs.StateVector.{Vector, IsSameState, IsPart, IsOver}
 use Rattle.state_model.specs.Gate.{Matrix, matrix, gate, two_gate}
@@ -73,3 +75,15 @@ CertainQubitsHaveRegisters = (q : ℕ) (b : Bool) (v : Vector) → ((x : ℕ) �
 -- a new pair has a register of two rows
 abbrev pub NewPairsHaveRegisters : Type 0
 NewPairsHaveRegisters = (p q : ℕ) (v : Vector) → IsPart (paired p q v) (p ∷ q ∷ []) (register_vector (p ∷ q ∷ []) (one_coefficient ∷ zero_coefficient ∷ zero_coefficient ∷ one_coefficient ∷ []))
+
+-- every whole vector proportional to a reduced one is a whole multiple of it
+abbrev pub MultiplesAreWhole : Type 0
+MultiplesAreWhole = (vs us : List Coefficient) → IsReduced vs → length us ≡ length vs → IsProportional vs us → (m : Coefficient) × ((j : ℕ) → at us j ≡ m ⊗ at vs j)
+
+-- a reduced vector with a balanced weight has the least sum of squares of all that are proportional to it
+abbrev pub BalancedIsLeast : Type 0
+BalancedIsLeast = (vs us : List Coefficient) → IsReduced vs → IsBalanced (total_weight vs) → length us ≡ length vs → IsProportional vs us → (j : ℕ) → at us j ≢ zero_coefficient → (total_weight vs).x ≤ℤ (total_weight us).x
+
+-- the products of the entries of two reduced vectors have no common divisor but units
+abbrev pub ProductIsReduced : Type 0
+ProductIsReduced = (vs us : List Coefficient) → IsReduced vs → IsReduced us → (u : Coefficient) → ((i j : ℕ) → Divides u (at vs i ⊗ at us j)) → Divides u one_coefficient
