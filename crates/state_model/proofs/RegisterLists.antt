@@ -203,6 +203,10 @@ proportional_ratios qs vs us same x y = by (within qs x == x) refl (within qs y 
 pub same_proportional : (qs : List ℕ) (vs us : List Coefficient) → AreDistinct qs → length vs ≡ 2 ^ length qs → length us ≡ 2 ^ length qs → IsSameState (register_vector qs vs) (register_vector qs us) → IsProportional vs us
 same_proportional qs vs us apart lv lu h = ratios_proportional qs vs us apart lv lu (λ x y in_x in_y. h.ratios x y)
 
+-- lists of one state are proportional
+pub same_states : (a b : Amplitudes) → a.qubits ≡ b.qubits → HasRows a → HasRows b → IsSameState (vector_of a) (vector_of b) → IsProportional a.list b.list
+same_states a b e h k same = same_proportional a.qubits a.list b.list h.distinct h.rows (k.rows ∙ ap (λ (qs : List ℕ). 2 ^ length qs) (sym e)) (subst (λ (qs : List ℕ). IsSameState (vector_of a) (register_vector qs b.list)) (sym e) same)
+
 -- ---- rows that are not zero
 coefficient_zero : (z : Coefficient) → (z ≡ zero_coefficient) ⊎ (z ≢ zero_coefficient)
 coefficient_zero z = ⊎_elim (λ e. inl (no_squares z e)) (λ n. inr (λ e. n (ap squares e ∙ unfold squares in refl))) (cases_eq (squares z) 0)
@@ -228,7 +232,7 @@ some_row_entry qs vs some = some_entry vs (λ all. some (λ x. by x (all (regist
 pub entry_some_row : (qs : List ℕ) (vs : List Coefficient) → AreDistinct qs → length vs ≡ 2 ^ length qs → IsNonzero vs → ¬ ((x : ℕ) → register_vector qs vs x ≡ zero_coefficient)
 entry_some_row qs vs apart l n none = n.1 (⊎_elim (λ p. sym (vector-row qs vs (n.0) apart p) ∙ none (network_row qs (n.0))) (λ p. at_past vs (n.0) (omega arith)) (cases_lt (n.0) (2 ^ length qs)))
 
-one_not_zero : one_coefficient ≢ zero_coefficient
+pub one_not_zero : one_coefficient ≢ zero_coefficient
 one_not_zero e = let f : pos 1 ≡ pos 0 = ap (λ (z : Coefficient). z.a) e in cc
 
 -- a reduced list has an entry other than zero: else zero would divide all
