@@ -21,7 +21,7 @@ use Rattle.state_model.proofs.RegisterSums.{vector-within}
 
 -- ---- rows of a register and of the network
 -- a row by its lowest bit and the rest
-row_split : (i : ℕ) → cond (is_set 0 i) 1 0 + 2 * (i / 2) ≡ i
+pub row_split : (i : ℕ) → cond (is_set 0 i) 1 0 + 2 * (i / 2) ≡ i
 unfolding is_set
 row_split i = ap (λ n. cond (n == 1) 1 0 + 2 * (i / 2)) (bit_at_lowest i) ∙ ap (λ n. n + 2 * (i / 2)) (by (i % 2) (omega arith)) ∙ omega arith
   where
