@@ -1,0 +1,10 @@
+pub mod Stored
+pub mod StoredSteps
+pub mod Parity
+pub mod Descent
+pub mod UnitSizes
+pub mod Greatest
+pub mod Sizes
+pub mod Rounding
+pub mod Entries
+pub mod SignLemmas

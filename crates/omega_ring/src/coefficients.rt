@@ -1,0 +1,150 @@
+//! Coefficients in 64 and in 128 bits, and the operations of their ring.
+ghost use Rattle.std.specs.Prelude.{◌≡◌, ◌<◌, ◌^◌, IsSome, IfSome, ◌↔◌};
+ghost use Rattle.state_model.specs.Coefficient.{◌⊕◌, ◌⊖◌, ◌⊗◌, conjugate, weight};
+ghost use Rattle.omega_ring.specs.Views.{omega_value, wide_value, weight_value};
+ghost use Rattle.omega_ring.specs.Range.{CoordinatesBelow, CoordinatesUpTo, FitsOmega};
+
+use crate::arithmetic::{minus, narrowed, times, total};
+use crate::weights::Weight;
+
+/// `a + b w + c w^2 + d w^3`, where w is the eighth root of unity and `w^4 = -1`.
+#[derive(Clone, Copy, PartialEq, Eq, Debug, Drop)]
+pub struct Omega {
+    pub a: i64,
+    pub b: i64,
+    pub c: i64,
+    pub d: i64,
+}
+
+/// `a + b w + c w^2 + d w^3` with wider coordinates.
+#[derive(Clone, Copy, PartialEq, Eq, Debug, Drop)]
+pub struct Wide {
+    pub a: i128,
+    pub b: i128,
+    pub c: i128,
+    pub d: i128,
+}
+
+impl Omega {
+    /// The same value with wider coordinates.
+    pub fn wide(self) -> Wide
+        ensures { wide_value result ≡ omega_value self }
+    {
+        Wide {
+            a: self.a as i128,
+            b: self.b as i128,
+            c: self.c as i128,
+            d: self.d as i128,
+        }
+    }
+}
+
+impl Wide {
+    /// The same value in 64 bits; None exactly where a coordinate doesn't fit an i64.
+    pub fn narrow(self) -> Option<Omega>
+        ensures fits { IsSome result ↔ FitsOmega (wide_value self) }
+        ensures same { IfSome result (λ z. omega_value z ≡ wide_value self) }
+    {
+        let a = narrowed(self.a)?;
+        let b = narrowed(self.b)?;
+        let c = narrowed(self.c)?;
+        let d = narrowed(self.d)?;
+        Some(Omega { a, b, c, d })
+    }
+
+    /// The sum, coordinate by coordinate.
+    pub fn add(self, other: Wide) -> Wide
+        requires left { CoordinatesUpTo (2 ^ 125) (wide_value self) }
+        requires right { CoordinatesUpTo (2 ^ 125) (wide_value other) }
+        ensures { wide_value result ≡ wide_value self ⊕ wide_value other }
+    {
+        Wide {
+            a: self.a + other.a,
+            b: self.b + other.b,
+            c: self.c + other.c,
+            d: self.d + other.d,
+        }
+    }
+
+    /// The difference, coordinate by coordinate.
+    pub fn sub(self, other: Wide) -> Wide
+        requires left { CoordinatesUpTo (2 ^ 125) (wide_value self) }
+        requires right { CoordinatesUpTo (2 ^ 125) (wide_value other) }
+        ensures { wide_value result ≡ wide_value self ⊖ wide_value other }
+    {
+        Wide {
+            a: self.a - other.a,
+            b: self.b - other.b,
+            c: self.c - other.c,
+            d: self.d - other.d,
+        }
+    }
+
+    /// The complex conjugate, `(a, -d, -c, -b)`.
+    pub fn conj(self) -> Wide
+        requires { CoordinatesUpTo (2 ^ 125) (wide_value self) }
+        ensures { wide_value result ≡ conjugate (wide_value self) }
+    {
+        Wide {
+            a: self.a,
+            b: -self.d,
+            c: -self.c,
+            d: -self.b,
+        }
+    }
+
+    /// The product, by `w^4 = -1`.
+    pub fn mul(self, other: Wide) -> Wide
+        requires left { CoordinatesBelow (2 ^ 61) (wide_value self) }
+        requires right { CoordinatesBelow (2 ^ 61) (wide_value other) }
+        ensures { wide_value result ≡ wide_value self ⊗ wide_value other }
+    {
+        Wide {
+            a: total(
+                times(self.a, other.a),
+                minus(self.b, other.d),
+                minus(self.c, other.c),
+                minus(self.d, other.b),
+            ),
+            b: total(
+                times(self.a, other.b),
+                times(self.b, other.a),
+                minus(self.c, other.d),
+                minus(self.d, other.c),
+            ),
+            c: total(
+                times(self.a, other.c),
+                times(self.b, other.b),
+                times(self.c, other.a),
+                minus(self.d, other.d),
+            ),
+            d: total(
+                times(self.a, other.d),
+                times(self.b, other.c),
+                times(self.c, other.b),
+                times(self.d, other.a),
+            ),
+        }
+    }
+
+    /// The squared absolute value, `a^2 + b^2 + c^2 + d^2 + (ab + bc + cd - da) sqrt(2)`.
+    pub fn weight(self) -> Weight
+        requires { CoordinatesBelow (2 ^ 61) (wide_value self) }
+        ensures { weight_value result ≡ weight (wide_value self) }
+    {
+        Weight {
+            x: total(
+                times(self.a, self.a),
+                times(self.b, self.b),
+                times(self.c, self.c),
+                times(self.d, self.d),
+            ),
+            y: total(
+                times(self.a, self.b),
+                times(self.b, self.c),
+                times(self.c, self.d),
+                minus(self.d, self.a),
+            ),
+        }
+    }
+}

@@ -1,0 +1,163 @@
+//! Greatest common divisors by Euclid's steps, each of which divides with a rounded quotient.
+ghost use Rattle.std.specs.Prelude.{◌≡◌, ◌≢◌, ℕ, map, ◌<◌, ◌*◌, ◌^◌, ◌<ℤ◌, pos, unsigned_abs, IsTrue, ◌↔◌};
+ghost use Rattle.state_model.specs.Coefficient.{Coefficient, zero_coefficient, ◌⊗◌, conjugate, weight};
+ghost use Rattle.state_model.specs.Divisors.{Divides, IsBalanced, norm};
+ghost use Rattle.state_model.specs.CoefficientList.{at, DividesAll, IsNonzero};
+ghost use Rattle.state_model.specs.Quotients.{IsRemainder, IsGreatest};
+ghost use Rattle.omega_ring.specs.Views.{omega_value, omega_values, wide_value};
+ghost use Rattle.omega_ring.specs.Range.{CoordinatesBelow, CoordinatesUpTo};
+ghost use Rattle.omega_ring.specs.Steps.{IsReady, IsNearest, inner, turn_back, conjugate_weight};
+
+use crate::arithmetic::{exact, nearest, total_far};
+use crate::coefficients::{Omega, Wide};
+
+/// A common divisor of the entries that every common divisor divides, with a balanced weight
+/// and coordinates below 2^31. Some entry isn't zero, and each entry's sum of squares is below 2^61.
+pub fn gcd_of(list: &[Omega]) -> Omega
+    requires some { IsNonzero (omega_values list.now) }
+    requires small { (i : ℕ) → (weight (at (omega_values list.now) i)).x <ℤ pos (2 ^ 61) }
+    ensures common { DividesAll (omega_value result) (omega_values list.now) }
+    ensures greatest { (u : Coefficient) → DividesAll u (omega_values list.now) → Divides u (omega_value result) }
+    ensures balanced { IsBalanced (weight (omega_value result)) }
+    ensures small { CoordinatesBelow (2 ^ 31) (omega_value result) }
+{
+    let mut common = Wide {
+        a: 0,
+        b: 0,
+        c: 0,
+        d: 0,
+    };
+    for z in list {
+        common = next_common(common, *z);
+    }
+    common.short()
+}
+
+/// A greatest common divisor of one more entry.
+fn next_common(common: Wide, z: Omega) -> Wide
+    requires ready { IsReady (wide_value common) }
+    requires small { (weight (omega_value z)).x <ℤ pos (2 ^ 61) }
+    ensures greatest { IsGreatest (wide_value common) (omega_value z) (wide_value result) }
+    ensures ready { IsReady (wide_value result) }
+{
+    common.gcd(z.wide().balanced())
+}
+
+impl Wide {
+    /// A greatest common divisor.
+    fn gcd(self, u: Wide) -> Wide
+        requires left { IsReady (wide_value self) }
+        requires right { IsReady (wide_value u) }
+        ensures greatest { IsGreatest (wide_value self) (wide_value u) (wide_value result) }
+        ensures ready { IsReady (wide_value result) }
+    {
+        if u.is_zero() {
+            self
+        } else {
+            u.gcd(self.remainder(u).balanced())
+        }
+    }
+
+    fn is_zero(self) -> bool
+        ensures { IsTrue result ↔ (wide_value self ≡ zero_coefficient) }
+    {
+        self.a == 0 && self.b == 0 && self.c == 0 && self.d == 0
+    }
+
+    /// What is left of the value after a division by u.
+    fn remainder(self, u: Wide) -> Wide
+        requires left { IsReady (wide_value self) }
+        requires right { IsReady (wide_value u) }
+        requires nonzero { wide_value u ≢ zero_coefficient }
+        ensures remainder { IsRemainder (wide_value self) (wide_value u) (wide_value result) }
+        ensures small { (weight (wide_value result)).x <ℤ pos (2 ^ 64) }
+    {
+        self.sub(self.quotient(u).mul(u))
+    }
+
+    /// The quotient by u with each coordinate rounded.
+    fn quotient(self, u: Wide) -> Wide
+        requires left { IsReady (wide_value self) }
+        requires right { IsReady (wide_value u) }
+        requires nonzero { wide_value u ≢ zero_coefficient }
+        ensures nearest { IsNearest (norm (wide_value u)) (wide_value self ⊗ (conjugate (wide_value u) ⊗ conjugate_weight (weight (wide_value u)))) (wide_value result) }
+        ensures small { CoordinatesBelow (2 ^ 36) (wide_value result) }
+    {
+        let w = u.weight();
+        let numerator = self.product(u.conj().product(w.conjugate()));
+        numerator.rounded(w.norm())
+    }
+
+    /// Each coordinate over n, rounded.
+    fn rounded(self, n: i128) -> Wide
+        requires positive { pos 0 <ℤ n }
+        requires small { n <ℤ pos (2 ^ 122) }
+        requires size { CoordinatesUpTo (2 ^ 35 * unsigned_abs n) (wide_value self) }
+        ensures nearest { IsNearest n (wide_value self) (wide_value result) }
+        ensures size { CoordinatesBelow (2 ^ 36) (wide_value result) }
+    {
+        Wide {
+            a: nearest(self.a, n),
+            b: nearest(self.b, n),
+            c: nearest(self.c, n),
+            d: nearest(self.d, n),
+        }
+    }
+
+    /// The product of small by large coordinates.
+    fn product(self, v: Wide) -> Wide
+        requires left { CoordinatesBelow (2 ^ 31) (wide_value self) }
+        requires right { CoordinatesUpTo (2 ^ 94) (wide_value v) }
+        ensures { wide_value result ≡ wide_value self ⊗ wide_value v }
+    {
+        let one = v.turn();
+        let two = one.turn();
+        let three = two.turn();
+        Wide {
+            a: self.dot(v.conj()),
+            b: self.dot(one.conj()),
+            c: self.dot(two.conj()),
+            d: self.dot(three.conj()),
+        }
+    }
+
+    /// The product with the inverse of w.
+    fn turn(self) -> Wide
+        requires { CoordinatesUpTo (2 ^ 125) (wide_value self) }
+        ensures { wide_value result ≡ turn_back (wide_value self) }
+    {
+        Wide {
+            a: self.b,
+            b: self.c,
+            c: self.d,
+            d: -self.a,
+        }
+    }
+
+    /// The sum of the products of the coordinates.
+    fn dot(self, q: Wide) -> i128
+        requires left { CoordinatesBelow (2 ^ 31) (wide_value self) }
+        requires right { CoordinatesUpTo (2 ^ 94) (wide_value q) }
+        ensures { result ≡ inner (wide_value self) (wide_value q) }
+    {
+        total_far(
+            exact(self.a, q.a),
+            exact(self.b, q.b),
+            exact(self.c, q.c),
+            exact(self.d, q.d),
+        )
+    }
+
+    /// The value in 64 bits.
+    fn short(self) -> Omega
+        requires { IsReady (wide_value self) }
+        ensures { omega_value result ≡ wide_value self }
+    {
+        Omega {
+            a: self.a as i64,
+            b: self.b as i64,
+            c: self.c as i64,
+            d: self.d as i64,
+        }
+    }
+}
