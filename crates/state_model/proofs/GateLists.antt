@@ -82,10 +82,10 @@ sum_absent y = same_coordinates _ _ (omega (arith, ints)) (omega (arith, ints)) 
 absent_sum : (y : Coefficient) → zero_coefficient ⊕ y ≡ y
 absent_sum y = ⊕_comm zero_coefficient y ∙ sum_absent y
 
-first_row : (y z : Coefficient) → one_coefficient ⊗ y ⊕ zero_coefficient ⊗ z ≡ y
+pub first_row : (y z : Coefficient) → one_coefficient ⊗ y ⊕ zero_coefficient ⊗ z ≡ y
 first_row y z = ap (λ t. t ⊕ zero_coefficient ⊗ z) (one-⊗ y) ∙ ap (λ t. y ⊕ t) (zero_coefficient-⊗ z) ∙ sum_absent y
 
-second_row : (k y z : Coefficient) → zero_coefficient ⊗ y ⊕ k ⊗ z ≡ k ⊗ z
+pub second_row : (k y z : Coefficient) → zero_coefficient ⊗ y ⊕ k ⊗ z ≡ k ⊗ z
 second_row k y z = ap (λ t. t ⊕ k ⊗ z) (zero_coefficient-⊗ y) ∙ absent_sum (k ⊗ z)
 
 pub exchanged_low : (y z : Coefficient) → z ≡ entry (matrix X) false y z
