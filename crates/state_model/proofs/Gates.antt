@@ -81,7 +81,7 @@ gate_some_row m q v det some none = some (λ x. ap v (sym (with_own_bit q x)) �
     at x false = (both_zero m (v (with_bit q false x)) (v (with_bit q true x)) det (row x false) (row x true)).0
     at x true = (both_zero m (v (with_bit q false x)) (v (with_bit q true x)) det (row x false) (row x true)).1
 
-entry_absent : (m : Matrix) (b : Bool) (x y : Coefficient) → x ≡ zero_coefficient → y ≡ zero_coefficient → entry m b x y ≡ zero_coefficient
+pub entry_absent : (m : Matrix) (b : Bool) (x y : Coefficient) → x ≡ zero_coefficient → y ≡ zero_coefficient → entry m b x y ≡ zero_coefficient
 entry_absent m b x y e f = ap (λ t. entry m b t y) e ∙ ap (λ t. entry m b zero_coefficient t) f ∙ none b
   where
     sum : (k l : Coefficient) → k ⊗ zero_coefficient ⊕ l ⊗ zero_coefficient ≡ zero_coefficient

@@ -22,12 +22,12 @@ abbrev pub AreDistinct : List ℕ → Type 0
 AreDistinct [] = Unit {0}
 AreDistinct (p ∷ qs) = (is_listed qs p ≡ false) × AreDistinct qs
 
-lowest : (b : Bool) (r : ℕ) → is_set 0 (cond b 1 0 + 2 * r) ≡ b
+pub lowest : (b : Bool) (r : ℕ) → is_set 0 (cond b 1 0 + 2 * r) ≡ b
 unfolding is_set
 lowest true r = let e : (1 + 2 * r) % 2 ≡ 1 = omega arith in ap (λ n. n == 1) (bit_at_lowest (1 + 2 * r) ∙ e)
 lowest false r = let e : (0 + 2 * r) % 2 ≡ 0 = omega arith in ap (λ n. n == 1) (bit_at_lowest (0 + 2 * r) ∙ e)
 
-higher : (b : Bool) (r j : ℕ) → is_set (suc j) (cond b 1 0 + 2 * r) ≡ is_set j r
+pub higher : (b : Bool) (r j : ℕ) → is_set (suc j) (cond b 1 0 + 2 * r) ≡ is_set j r
 unfolding is_set
 higher true r j = let e : (1 + 2 * r) / 2 ≡ r = omega arith in ap (λ n. n == 1) (bit_at-suc (1 + 2 * r) j ∙ ap (λ n. bit_at n j) e)
 higher false r j = let e : (0 + 2 * r) / 2 ≡ r = omega arith in ap (λ n. n == 1) (bit_at-suc (0 + 2 * r) j ∙ ap (λ n. bit_at n j) e)
@@ -39,14 +39,14 @@ register_bit [] j q x at = absurd at
 register_bit (p ∷ qs) zero q x at = lowest (is_set p x) (register_row qs x) ∙ ap (λ n. is_set n x) at
 register_bit (p ∷ qs) (suc j) q x at = higher (is_set p x) (register_row qs x) j ∙ register_bit qs j q x at
 
-is_at_listed : (qs : List ℕ) (j q : ℕ) → IsAt qs j q → is_listed qs q ≡ true
+pub is_at_listed : (qs : List ℕ) (j q : ℕ) → IsAt qs j q → is_listed qs q ≡ true
 unfolding is_listed
 is_at_listed [] j q at = absurd at
 is_at_listed (p ∷ qs) zero q at = let e : (p == q) ≡ true = grind arith in ap (λ b. b || is_listed qs q) e
 is_at_listed (p ∷ qs) (suc j) q at = ap (λ b. (p == q) || b) (is_at_listed qs j q at) ∙ or_true (p == q)
 
 -- a qubit that is not listed does not show
-register_blind : (qs : List ℕ) (q : ℕ) (b : Bool) (x : ℕ) → is_listed qs q ≡ false → register_row qs (with_bit q b x) ≡ register_row qs x
+pub register_blind : (qs : List ℕ) (q : ℕ) (b : Bool) (x : ℕ) → is_listed qs q ≡ false → register_row qs (with_bit q b x) ≡ register_row qs x
 unfolding register_row is_listed
 register_blind [] q b x out = refl
 register_blind (p ∷ qs) q b x out =
@@ -58,14 +58,14 @@ register_blind (p ∷ qs) q b x out =
     or_first true c e f = cc
     or_first false c e f = cc
 
-low_with_bit : (b c : Bool) (r : ℕ) → with_bit 0 b (cond c 1 0 + 2 * r) ≡ cond b 1 0 + 2 * r
+pub low_with_bit : (b c : Bool) (r : ℕ) → with_bit 0 b (cond c 1 0 + 2 * r) ≡ cond b 1 0 + 2 * r
 low_with_bit b c r = same_row _ _ by
   where
     by : (p : ℕ) → is_set p (with_bit 0 b (cond c 1 0 + 2 * r)) ≡ is_set p (cond b 1 0 + 2 * r)
     by zero = is_set-with_bit_same 0 b _ ∙ sym (lowest b r)
     by (suc p) = is_set-with_bit_other (suc p) 0 b _ (λ e. absurd (omega arith)) ∙ higher c r p ∙ sym (higher b r p)
 
-high_with_bit : (b c : Bool) (r j : ℕ) → with_bit (suc j) b (cond c 1 0 + 2 * r) ≡ cond c 1 0 + 2 * with_bit j b r
+pub high_with_bit : (b c : Bool) (r j : ℕ) → with_bit (suc j) b (cond c 1 0 + 2 * r) ≡ cond c 1 0 + 2 * with_bit j b r
 high_with_bit b c r j = same_row _ _ by
   where
     by : (p : ℕ) → is_set p (with_bit (suc j) b (cond c 1 0 + 2 * r)) ≡ is_set p (cond c 1 0 + 2 * with_bit j b r)

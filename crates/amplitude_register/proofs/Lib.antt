@@ -1,0 +1,10 @@
+pub mod Entries
+pub mod Roots
+pub mod Parity
+pub mod Products
+pub mod Stored
+pub mod Loops
+pub mod Sums
+pub mod Steps
+pub mod Fields
+pub mod RowPairs

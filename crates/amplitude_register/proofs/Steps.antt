@@ -1,0 +1,215 @@
+-- One step of a division by a common divisor or of a product with a unit.
+use Rattle.std.proofs.Common.{◌≡◌, ◌≢◌, ℕ, zero, suc, ◌*◌, ◌<◌, ◌^◌, ℤ, pos, ◌+ℤ◌, ◌-ℤ◌, ◌*ℤ◌, neg_ℤ, ◌≤ℤ◌, ◌<ℤ◌, unsigned_abs, List, [], ◌∷◌, refl, sym, ap, subst, ◌∙◌, arith}
+use Rattle.std.proofs.lemmas.Int.{ints, unsigned_abs-mul}
+use Rattle.amplitude_register.proofs.Products.{lower_pair_is, upper_pair_is}
+use Rattle.amplitude_register.proofs.Sums.{IsReal, real_sum, entry_below}
+use Rattle.state_model.specs.Coefficient.{Coefficient, zero_coefficient, ◌⊗◌, Weight, weight}
+use Rattle.state_model.specs.Divisors.{weight_product, weight_norm, delta, unit_up, unit_down, IsBalanced}
+use Rattle.state_model.specs.CoefficientList.{at, DividesAll, IsScaled, IsNonzero, IsNormal, HasDeltaDivisors, total_weight}
+use Rattle.state_model.specs.Quotients.{IsEven}
+use Rattle.state_model.proofs.Polynomial.{number, plus, minus, less}
+use Rattle.state_model.proofs.Expressions.{quad, pair, mul_quad, mul_pair, equal_quads, equal_pairs, coordinates, same_weight}
+use Rattle.state_model.proofs.Ring.{⊗_comm, ⊗_assoc}
+use Rattle.state_model.proofs.Domain.{zero_coefficient-⊗}
+use Rattle.state_model.proofs.Norms.{weight_norm-product, weight_below, weight_above, weight_norm_zero}
+use Rattle.state_model.proofs.Inequalities.{order}
+use Rattle.state_model.proofs.Least.{multiple_weight}
+use Rattle.state_model.proofs.Reduction.{delta_free_reduced}
+use Rattle.state_model.proofs.RegisterSizes.{scaled_trans}
+use Rattle.amplitude_register.specs.Multiples.{delta_conjugate, AreTimes}
+
+-- ---- multiples
+pub delta_nonzero : delta ≢ zero_coefficient
+delta_nonzero e = let f : pos 1 ≡ pos 0 = ap (λ (z : Coefficient). z.a) e in cc f
+
+pub conjugate_nonzero : delta_conjugate ≢ zero_coefficient
+conjugate_nonzero e = let f : pos 1 ≡ pos 0 = ap (λ (z : Coefficient). z.a) e in cc f
+
+pub up_nonzero : unit_up ≢ zero_coefficient
+up_nonzero e = let f : pos 1 ≡ pos 0 = ap (λ (z : Coefficient). z.a) e in cc f
+
+pub down_nonzero : unit_down ≢ zero_coefficient
+down_nonzero e = let f : pos 1 ≡ pos 0 = ap (λ (z : Coefficient). z.b) e in cc f
+
+-- where vs is us times u, vs is a multiple of us
+pub scaled_times : (vs us : List Coefficient) (u : Coefficient) → u ≢ zero_coefficient → AreTimes vs us u → IsScaled us vs
+scaled_times vs us u n h = record { factor = u; nonzero = n; value = λ i. h.value i ∙ ⊗_comm (at us i) u }
+
+-- ---- weights
+pub times_weight : (vs us : List Coefficient) (u : Coefficient) → AreTimes vs us u → total_weight vs ≡ weight_product (total_weight us) (weight u)
+times_weight vs us u h = multiple_weight u us vs h.rows (λ j. h.value j ∙ ⊗_comm (at us j) u)
+
+pub x_positive : (vs : List Coefficient) → IsNonzero vs → pos 0 <ℤ (total_weight vs).x
+x_positive vs h =
+    let k = entry_below vs (h.0) in
+    let a = weight_below (at vs (h.0)) (h.1) in
+    let b = weight_above (at vs (h.0)) (h.1) in
+    both (weight (at vs (h.0))) (total_weight vs).x k a b
+  where
+    both : (w : Weight) (x : ℤ) → w.x ≤ℤ x → w.y <ℤ w.x → neg_ℤ w.y <ℤ w.x → pos 0 <ℤ x
+    both w x k a b = omega (arith, order)
+
+pub times_nonzero : (vs us : List Coefficient) (u : Coefficient) → AreTimes vs us u → IsNonzero vs → IsNonzero us
+times_nonzero vs us u h n = (n.0, λ e. n.1 (h.value (n.0) ∙ ap (λ (t : Coefficient). t ⊗ u) e ∙ zero_coefficient-⊗ u))
+
+-- the norm falls to its half
+pub norm_halves : (w v u : Weight) → w ≡ weight_product v u → weight_norm u ≡ pos 2 → pos 0 <ℤ v.x → unsigned_abs (weight_norm v) < unsigned_abs (weight_norm w)
+norm_halves w v u e f h =
+    let g : unsigned_abs (weight_norm w) ≡ unsigned_abs (weight_norm v) * 2 = ap (λ (t : Weight). unsigned_abs (weight_norm t)) e ∙ ap unsigned_abs (weight_norm-product v u ∙ ap (λ (t : ℤ). weight_norm v *ℤ t) f) ∙ unsigned_abs-mul (weight_norm v) (pos 2) in
+    let n : unsigned_abs (weight_norm v) ≢ 0 = λ z. no_zero (weight_norm_zero v (abs_zero (weight_norm v) z)) in
+    omega arith
+  where
+    abs_zero : (z : ℤ) → unsigned_abs z ≡ 0 → z ≡ pos 0
+    abs_zero z e = omega (arith, ints)
+
+    no_zero : v.x ≡ pos 0 → ⊥
+    no_zero e = omega (arith, order)
+
+abbrev lower_pair : Weight
+lower_pair = record { x = pos 2; y = pos 1 }
+
+abbrev upper_pair : Weight
+upper_pair = record { x = pos 2; y = pos 0 -ℤ pos 1 }
+
+-- what one division by 1 + w or 1 - w leaves, where r is the weight that the code computes
+pub record IsDivided (vs us : List Coefficient) (w r : Weight) : Type 0 where
+  pub weight : r ≡ total_weight us
+  pub smaller : r.x ≤ℤ w.x
+  pub nonzero : IsNonzero us
+  pub falls : unsigned_abs (weight_norm r) < unsigned_abs (weight_norm w)
+  pub scaled : IsScaled us vs
+
+pub lower_even : (vs us : List Coefficient) (w : Weight) → w ≡ total_weight vs → AreTimes vs us delta_conjugate → IsEven w.x
+lower_even vs us w e h =
+    let v = total_weight us in
+    (v.x +ℤ v.y, ap (λ (t : Weight). t.x) (e ∙ times_weight vs us delta_conjugate h ∙ lower_pair_is v) ∙ split v)
+  where
+    split : (v : Weight) → v.x +ℤ v.x +ℤ v.y +ℤ v.y ≡ (v.x +ℤ v.y) +ℤ (v.x +ℤ v.y)
+    split v = omega (arith, order)
+
+pub upper_even : (vs us : List Coefficient) (w : Weight) → w ≡ total_weight vs → AreTimes vs us delta → IsEven w.x
+upper_even vs us w e h =
+    let v = total_weight us in
+    (v.x -ℤ v.y, ap (λ (t : Weight). t.x) (e ∙ times_weight vs us delta h ∙ upper_pair_is v) ∙ split v)
+  where
+    split : (v : Weight) → v.x +ℤ v.x -ℤ v.y -ℤ v.y ≡ (v.x -ℤ v.y) +ℤ (v.x -ℤ v.y)
+    split v = omega (arith, order)
+
+cancel_lower : (v u : Weight) → weight_product v lower_pair ≡ weight_product u lower_pair → v ≡ u
+cancel_lower v u e =
+    let f = sym (lower_pair_is v) ∙ e ∙ lower_pair_is u in
+    let fx = ap (λ (t : Weight). t.x) f in let fy = ap (λ (t : Weight). t.y) f in
+    same_weight v u (omega (arith, order)) (omega (arith, order))
+
+cancel_upper : (v u : Weight) → weight_product v upper_pair ≡ weight_product u upper_pair → v ≡ u
+cancel_upper v u e =
+    let f = sym (upper_pair_is v) ∙ e ∙ upper_pair_is u in
+    let fx = ap (λ (t : Weight). t.x) f in let fy = ap (λ (t : Weight). t.y) f in
+    same_weight v u (omega (arith, order)) (omega (arith, order))
+
+x_of : (r : Weight) (us : List Coefficient) → r ≡ total_weight us → IsNonzero us → pos 0 <ℤ r.x
+x_of r us e n = subst (λ (t : Weight). pos 0 <ℤ t.x) (sym e) (x_positive us n)
+
+pub lower_step : (vs us : List Coefficient) (w r : Weight) → w ≡ total_weight vs → pos 0 ≤ℤ w.y → IsNonzero vs → AreTimes vs us delta_conjugate → w ≡ weight_product r lower_pair → IsDivided vs us w r
+lower_step vs us w r e s n h f =
+    let g : r ≡ total_weight us = cancel_lower r (total_weight us) (sym f ∙ e ∙ times_weight vs us delta_conjugate h) in
+    let m = times_nonzero vs us delta_conjugate h n in
+    record {
+      weight = g;
+      smaller = not_more w r s (f ∙ lower_pair_is r);
+      nonzero = m;
+      falls = norm_halves w r lower_pair f refl (x_of r us g m);
+      scaled = scaled_times vs us delta_conjugate conjugate_nonzero h;
+    }
+  where
+    not_more : (w r : Weight) → pos 0 ≤ℤ w.y → w ≡ record { x = r.x +ℤ r.x +ℤ r.y +ℤ r.y; y = r.x +ℤ r.y +ℤ r.y } → r.x ≤ℤ w.x
+    not_more w r s f =
+        let fx = ap (λ (t : Weight). t.x) f in let fy = ap (λ (t : Weight). t.y) f in
+        omega (arith, order)
+
+pub upper_step : (vs us : List Coefficient) (w r : Weight) → w ≡ total_weight vs → w.y ≤ℤ pos 0 → IsNonzero vs → AreTimes vs us delta → w ≡ weight_product r upper_pair → IsDivided vs us w r
+upper_step vs us w r e s n h f =
+    let g : r ≡ total_weight us = cancel_upper r (total_weight us) (sym f ∙ e ∙ times_weight vs us delta h) in
+    let m = times_nonzero vs us delta h n in
+    record {
+      weight = g;
+      smaller = not_more w r s (f ∙ upper_pair_is r);
+      nonzero = m;
+      falls = norm_halves w r upper_pair f refl (x_of r us g m);
+      scaled = scaled_times vs us delta delta_nonzero h;
+    }
+  where
+    not_more : (w r : Weight) → w.y ≤ℤ pos 0 → w ≡ record { x = r.x +ℤ r.x -ℤ r.y -ℤ r.y; y = r.y +ℤ r.y -ℤ r.x } → r.x ≤ℤ w.x
+    not_more w r s f =
+        let fx = ap (λ (t : Weight). t.x) f in let fy = ap (λ (t : Weight). t.y) f in
+        omega (arith, order)
+
+-- ---- units
+times_down_up : (z : Coefficient) → z ≡ (z ⊗ unit_down) ⊗ unit_up
+times_down_up z =
+    let t = quad 0 in let one = number (pos 1) in let nought = number (pos 0) in
+    equal_quads (coordinates z []) t (mul_quad (mul_quad t record { a = minus one; b = one; c = nought; d = minus one }) record { a = one; b = one; c = nought; d = minus one }) refl refl refl refl
+
+times_up_down : (z : Coefficient) → z ≡ (z ⊗ unit_up) ⊗ unit_down
+times_up_down z =
+    let t = quad 0 in let one = number (pos 1) in let nought = number (pos 0) in
+    equal_quads (coordinates z []) t (mul_quad (mul_quad t record { a = one; b = one; c = nought; d = minus one }) record { a = minus one; b = one; c = nought; d = minus one }) refl refl refl refl
+
+down_weight_is : (v : Weight) → weight_product v (weight unit_down) ≡ record { x = (v.x +ℤ v.x +ℤ v.x) -ℤ (v.y +ℤ v.y +ℤ v.y +ℤ v.y); y = (v.y +ℤ v.y +ℤ v.y) -ℤ (v.x +ℤ v.x) }
+down_weight_is v =
+    let t = pair 0 in
+    equal_pairs (v.x ∷ v.y ∷ []) (mul_pair t record { x = number (pos 3); y = number (neg_ℤ (pos 2)) }) record { x = less (plus (plus t.x t.x) t.x) (plus (plus (plus t.y t.y) t.y) t.y); y = less (plus (plus t.y t.y) t.y) (plus t.x t.x) } refl refl
+
+up_weight_is : (v : Weight) → weight_product v (weight unit_up) ≡ record { x = (v.x +ℤ v.x +ℤ v.x) +ℤ (v.y +ℤ v.y +ℤ v.y +ℤ v.y); y = (v.y +ℤ v.y +ℤ v.y) +ℤ (v.x +ℤ v.x) }
+up_weight_is v =
+    let t = pair 0 in
+    equal_pairs (v.x ∷ v.y ∷ []) (mul_pair t record { x = number (pos 3); y = number (pos 2) }) record { x = plus (plus (plus t.x t.x) t.x) (plus (plus (plus t.y t.y) t.y) t.y); y = plus (plus (plus t.y t.y) t.y) (plus t.x t.x) } refl refl
+
+pub record IsTurned (vs us : List Coefficient) (w r : Weight) : Type 0 where
+  pub weight : r ≡ total_weight us
+  pub small : r.x <ℤ pos (2 ^ 122)
+  pub falls : unsigned_abs r.x < unsigned_abs w.x
+  pub scaled : IsScaled us vs
+
+pub down_step : (vs us : List Coefficient) (w r : Weight) → w ≡ total_weight vs → w.x <ℤ pos (2 ^ 122) → w.x <ℤ (w.y +ℤ w.y) → AreTimes us vs unit_down → r.x ≡ (w.x +ℤ w.x +ℤ w.x) -ℤ (w.y +ℤ w.y +ℤ w.y +ℤ w.y) → r.y ≡ (w.y +ℤ w.y +ℤ w.y) -ℤ (w.x +ℤ w.x) → IsTurned vs us w r
+down_step vs us w r e s l h fx fy =
+    let g : r ≡ total_weight us = same_weight r record { x = (w.x +ℤ w.x +ℤ w.x) -ℤ (w.y +ℤ w.y +ℤ w.y +ℤ w.y); y = (w.y +ℤ w.y +ℤ w.y) -ℤ (w.x +ℤ w.x) } fx fy ∙ sym (down_weight_is w) ∙ ap (λ (t : Weight). weight_product t (weight unit_down)) e ∙ sym (times_weight us vs unit_down h) in
+    let p : IsReal r = subst IsReal (sym g) (real_sum us) in
+    let b : (r.x <ℤ w.x) × (unsigned_abs r.x < unsigned_abs w.x) = below w.x w.y r.x p.positive l fx in
+    record { weight = g; small = trans r.x w.x (b.0) s; falls = b.1; scaled = scaled_times vs us unit_up up_nonzero record { rows = sym h.rows; value = λ i. times_down_up (at vs i) ∙ ap (λ (t : Coefficient). t ⊗ unit_up) (sym (h.value i)) } }
+  where
+    below : (x y z : ℤ) → pos 0 ≤ℤ z → x <ℤ (y +ℤ y) → z ≡ (x +ℤ x +ℤ x) -ℤ (y +ℤ y +ℤ y +ℤ y) → (z <ℤ x) × (unsigned_abs z < unsigned_abs x)
+    below x y z p l f = let k : z <ℤ x = omega (arith, order) in (k, fall z x p k)
+      where
+        fall : (z x : ℤ) → pos 0 ≤ℤ z → z <ℤ x → unsigned_abs z < unsigned_abs x
+        fall z x p k = omega (arith, ints)
+
+    trans : (z x : ℤ) → z <ℤ x → x <ℤ pos (2 ^ 122) → z <ℤ pos (2 ^ 122)
+    trans z x k s = omega (arith, order)
+
+pub up_step : (vs us : List Coefficient) (w r : Weight) → w ≡ total_weight vs → w.x <ℤ pos (2 ^ 122) → (w.x +ℤ w.y +ℤ w.y) <ℤ pos 0 → AreTimes us vs unit_up → r.x ≡ (w.x +ℤ w.x +ℤ w.x) +ℤ (w.y +ℤ w.y +ℤ w.y +ℤ w.y) → r.y ≡ (w.y +ℤ w.y +ℤ w.y) +ℤ (w.x +ℤ w.x) → IsTurned vs us w r
+up_step vs us w r e s l h fx fy =
+    let g : r ≡ total_weight us = same_weight r record { x = (w.x +ℤ w.x +ℤ w.x) +ℤ (w.y +ℤ w.y +ℤ w.y +ℤ w.y); y = (w.y +ℤ w.y +ℤ w.y) +ℤ (w.x +ℤ w.x) } fx fy ∙ sym (up_weight_is w) ∙ ap (λ (t : Weight). weight_product t (weight unit_up)) e ∙ sym (times_weight us vs unit_up h) in
+    let p : IsReal r = subst IsReal (sym g) (real_sum us) in
+    let b : (r.x <ℤ w.x) × (unsigned_abs r.x < unsigned_abs w.x) = below w.x w.y r.x p.positive l fx in
+    record { weight = g; small = trans r.x w.x (b.0) s; falls = b.1; scaled = scaled_times vs us unit_down down_nonzero record { rows = sym h.rows; value = λ i. times_up_down (at vs i) ∙ ap (λ (t : Coefficient). t ⊗ unit_down) (sym (h.value i)) } }
+  where
+    below : (x y z : ℤ) → pos 0 ≤ℤ z → (x +ℤ y +ℤ y) <ℤ pos 0 → z ≡ (x +ℤ x +ℤ x) +ℤ (y +ℤ y +ℤ y +ℤ y) → (z <ℤ x) × (unsigned_abs z < unsigned_abs x)
+    below x y z p l f = let k : z <ℤ x = omega (arith, order) in (k, fall z x p k)
+      where
+        fall : (z x : ℤ) → pos 0 ≤ℤ z → z <ℤ x → unsigned_abs z < unsigned_abs x
+        fall z x p k = omega (arith, ints)
+
+    trans : (z x : ℤ) → z <ℤ x → x <ℤ pos (2 ^ 122) → z <ℤ pos (2 ^ 122)
+    trans z x k s = omega (arith, order)
+
+-- ---- the whole
+pub divides_scaled_all : (us vs : List Coefficient) (u : Coefficient) → IsScaled us vs → DividesAll u us → DividesAll u vs
+divides_scaled_all us vs u h d i = let e = d i in (h.factor ⊗ (e.0), h.value i ∙ ap (λ t. h.factor ⊗ t) (e.1) ∙ sym (⊗_assoc h.factor (e.0) u))
+
+-- old: the vector at the start; rest: after the divisions; new: balanced
+pub normal_end : (old rest new : List Coefficient) (w : Weight) → HasDeltaDivisors old → IsScaled rest old → (DividesAll delta rest → ⊥) → IsScaled new rest → w ≡ total_weight new → IsBalanced w → IsNormal new
+normal_end old rest new w d h n k e b = record {
+  reduced = delta_free_reduced new (λ u c. (d u (divides_scaled_all new old u (scaled_trans new rest old k h) c))) (λ c. n (divides_scaled_all new rest delta k c));
+  balanced = subst IsBalanced e b;
+}

@@ -1,0 +1,73 @@
+use Rattle.std.proofs.Common.{◌≡◌, ◌<◌, ◌^◌, ◌≤ℤ◌, ◌<ℤ◌, pos, unsigned_abs, map, arith}
+use Rattle.std.proofs.lemmas.Int.{ints}
+use Rattle.amplitude_register.proofs.Sums.{sum_within, real_of}
+use Rattle.amplitude_register.proofs.Steps.{IsDivided, lower_even, upper_even, lower_step, upper_step}
+use Rattle.state_model.specs.Divisors.{weight_norm}
+use Rattle.omega_ring.specs.Views.{omega_value, weight_value}
+use Rattle.state_model.proofs.Inequalities.{order}
+use Rattle.state_model.proofs.RegisterSizes.{scaled_self, scaled_trans}
+use Rattle.amplitude_register.proofs.division.+divide_out.Goals as goal
+
+pub all_divisible-requires : goal.all_divisible-requires
+all_divisible-requires t c = sum_within (map omega_value c.args.list.now) (weight_value c.args.weight) c.requires.weight c.requires.small
+
+pub divide_by_conjugate-requires-clause-range : goal.divide_by_conjugate-requires-clause-range
+divide_by_conjugate-requires-clause-range t c = sum_within (map omega_value c.args.list.now) (weight_value c.args.weight) c.requires.weight c.requires.small
+
+pub divide_by_delta-requires-clause-range : goal.divide_by_delta-requires-clause-range
+divide_by_delta-requires-clause-range t c = sum_within (map omega_value c.args.list.now) (weight_value c.args.weight) c.requires.weight c.requires.small
+
+pub lower_half-requires-clause-order : goal.lower_half-requires-clause-order
+lower_half-requires-clause-order t c = let r = real_of (map omega_value c.args.list.now) (weight_value c.args.weight) c.requires.weight in r.above
+
+pub lower_half-requires-clause-even : goal.lower_half-requires-clause-even
+lower_half-requires-clause-even t c = lower_even (map omega_value c.args.list.now) (map omega_value c.divide_by_conjugate.new.list) (weight_value c.args.weight) c.requires.weight c.divide_by_conjugate.ensures
+
+pub upper_half-requires-clause-order : goal.upper_half-requires-clause-order
+upper_half-requires-clause-order t c = let r = real_of (map omega_value c.args.list.now) (weight_value c.args.weight) c.requires.weight in let b = r.below in omega (arith, order, b)
+
+pub upper_half-requires-clause-even : goal.upper_half-requires-clause-even
+upper_half-requires-clause-even t c = upper_even (map omega_value c.args.list.now) (map omega_value c.divide_by_delta.new.list) (weight_value c.args.weight) c.requires.weight c.divide_by_delta.ensures
+
+pub divide_out-requires : goal.divide_out-requires
+divide_out-requires t c =
+    let s : pos 0 ≤ℤ c.args.weight.y = omega (arith, ints, c.if-weight-ge0.true) in
+    let k = lower_step (map omega_value c.args.list.now) (map omega_value c.divide_by_conjugate.new.list) (weight_value c.args.weight) (weight_value c.lower_half.result) c.requires.weight s c.requires.nonzero c.divide_by_conjugate.ensures c.lower_half.ensures in
+    let f : unsigned_abs (weight_norm (weight_value c.lower_half.result)) < unsigned_abs (weight_norm (weight_value c.args.weight)) = k.falls in
+    let m = k.smaller in
+    (omega (arith, f), (k.weight, (omega (arith, order, m, c.requires.small), k.nonzero)))
+
+pub divide_out-requires-else-weight-ge0 : goal.divide_out-requires-else-weight-ge0
+divide_out-requires-else-weight-ge0 t c =
+    let s : c.args.weight.y ≤ℤ pos 0 = omega (arith, ints, c.if-weight-ge0.false) in
+    let k = upper_step (map omega_value c.args.list.now) (map omega_value c.divide_by_delta.new.list) (weight_value c.args.weight) (weight_value c.upper_half.result) c.requires.weight s c.requires.nonzero c.divide_by_delta.ensures c.upper_half.ensures in
+    let f : unsigned_abs (weight_norm (weight_value c.upper_half.result)) < unsigned_abs (weight_norm (weight_value c.args.weight)) = k.falls in
+    let m = k.smaller in
+    (omega (arith, f), (k.weight, (omega (arith, order, m, c.requires.small), k.nonzero)))
+
+pub returns-then-not-all_divisible-clause-scaled : goal.returns-then-not-all_divisible-clause-scaled
+returns-then-not-all_divisible-clause-scaled t c = scaled_self (map omega_value c.args.list.now)
+
+pub returns-then-weight-ge0-clause-small : goal.returns-then-weight-ge0-clause-small
+returns-then-weight-ge0-clause-small t c =
+    let s : pos 0 ≤ℤ c.args.weight.y = omega (arith, ints, c.if-weight-ge0.true) in
+    let k = lower_step (map omega_value c.args.list.now) (map omega_value c.divide_by_conjugate.new.list) (weight_value c.args.weight) (weight_value c.lower_half.result) c.requires.weight s c.requires.nonzero c.divide_by_conjugate.ensures c.lower_half.ensures in
+    let m = k.smaller in omega (arith, order, m, c.divide_out.ensures.small)
+
+pub returns-then-weight-ge0-clause-scaled : goal.returns-then-weight-ge0-clause-scaled
+returns-then-weight-ge0-clause-scaled t c =
+    let s : pos 0 ≤ℤ c.args.weight.y = omega (arith, ints, c.if-weight-ge0.true) in
+    let k = lower_step (map omega_value c.args.list.now) (map omega_value c.divide_by_conjugate.new.list) (weight_value c.args.weight) (weight_value c.lower_half.result) c.requires.weight s c.requires.nonzero c.divide_by_conjugate.ensures c.lower_half.ensures in
+    scaled_trans (map omega_value c.divide_out.new.list) (map omega_value c.divide_by_conjugate.new.list) (map omega_value c.args.list.now) c.divide_out.ensures.scaled k.scaled
+
+pub returns-else-weight-ge0-clause-small : goal.returns-else-weight-ge0-clause-small
+returns-else-weight-ge0-clause-small t c =
+    let s : c.args.weight.y ≤ℤ pos 0 = omega (arith, ints, c.if-weight-ge0.false) in
+    let k = upper_step (map omega_value c.args.list.now) (map omega_value c.divide_by_delta.new.list) (weight_value c.args.weight) (weight_value c.upper_half.result) c.requires.weight s c.requires.nonzero c.divide_by_delta.ensures c.upper_half.ensures in
+    let m = k.smaller in omega (arith, order, m, c.divide_out-else-weight-ge0.ensures.small)
+
+pub returns-else-weight-ge0-clause-scaled : goal.returns-else-weight-ge0-clause-scaled
+returns-else-weight-ge0-clause-scaled t c =
+    let s : c.args.weight.y ≤ℤ pos 0 = omega (arith, ints, c.if-weight-ge0.false) in
+    let k = upper_step (map omega_value c.args.list.now) (map omega_value c.divide_by_delta.new.list) (weight_value c.args.weight) (weight_value c.upper_half.result) c.requires.weight s c.requires.nonzero c.divide_by_delta.ensures c.upper_half.ensures in
+    scaled_trans (map omega_value c.divide_out-else-weight-ge0.new.list) (map omega_value c.divide_by_delta.new.list) (map omega_value c.args.list.now) c.divide_out-else-weight-ge0.ensures.scaled k.scaled

@@ -1,0 +1,6 @@
+use Rattle.std.proofs.Common.{refl}
+use Rattle.amplitude_register.proofs.RowPairs.{set_test}
+use Rattle.amplitude_register.proofs.rows.has_bit.Goals as goal
+
+pub returns : goal.returns
+returns c = set_test c.args.place c.args.row

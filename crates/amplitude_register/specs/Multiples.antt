@@ -1,0 +1,24 @@
+-- Lists of coefficients: sizes of their coordinates, multiples entry by entry, and places of a row.
+use Rattle.std.specs.Prelude.{◌≡◌, ℕ, pos, ◌<◌, ◌^◌, List, length}
+use Rattle.state_model.specs.Coefficient.{Coefficient, coefficient, ◌⊗◌}
+use Rattle.state_model.specs.CoefficientList.{at}
+use Rattle.omega_ring.specs.Range.{CoordinatesBelow}
+
+-- 1 + w, whose weight is that of 1 - w with the other sign before √2
+abbrev pub delta_conjugate : Coefficient
+delta_conjugate = coefficient (pos 1) (pos 1) (pos 0) (pos 0)
+
+-- all coordinates of all entries lie strictly between -n and n
+abbrev pub AllWithin : ℕ → List Coefficient → Type 0
+AllWithin n vs = (i : ℕ) → CoordinatesBelow n (at vs i)
+
+-- the first list is the second times u, entry by entry
+pub record AreTimes (vs us : List Coefficient) (u : Coefficient) : Type 0 where
+  pub rows : length vs ≡ length us
+  pub value : (i : ℕ) → at vs i ≡ at us i ⊗ u
+
+-- so many rows are those of some number of qubits, of which one is at the place
+pub record HasPlace (place rows : ℕ) : Type 0 where
+  pub qubits : ℕ
+  pub inside : place < qubits
+  pub count : rows ≡ 2 ^ qubits

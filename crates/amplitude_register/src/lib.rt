@@ -1,0 +1,14 @@
+//! Registers of exact amplitudes: qubit numbers and a coefficient for each row of their bits, kept without
+//! common divisors and balanced, so that the sum of squares of a register is the least of its state.
+#![tactic(auto)]
+
+mod balancing;
+mod block;
+mod division;
+mod fronts;
+mod normal;
+mod register;
+mod rows;
+mod scalars;
+
+pub use register::{Reduce, Register, TooLarge};

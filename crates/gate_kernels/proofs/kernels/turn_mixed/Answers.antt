@@ -1,0 +1,15 @@
+use Rattle.std.proofs.Common.{◌≡◌, refl, sym, ap, subst, ◌∙◌}
+use Rattle.state_model.specs.Gate.{matrix}
+use Rattle.state_model.specs.Undo.{product}
+use Rattle.state_model.specs.declared.Gate.TheVariants.{I, X, Y, Z, T, H, K, RotX, RotY, RotZ}
+use Rattle.gate_kernels.specs.Gates.{drafting, preparing, IsMade, IsApplied, IsTooLarge}
+use Rattle.gate_kernels.proofs.Matrices.{k_product, x_product, y_product}
+use Rattle.gate_kernels.proofs.Made.{made_first, made_next, made_as, applied_exactly, applied_y, seal_nonzero, seal_divisors, sealed_applied, refused_large}
+use Rattle.gate_kernels.proofs.kernels.turn_mixed.Goals as goal
+
+pub returns : goal.returns
+returns c =
+    made_as drafting _ _ 4 c.args.place c.args.reg.now c.mix_rows.new.self (x_product c.args.eighths)
+    (made_next drafting (matrix H) (product (matrix (RotZ c.args.eighths)) (matrix H)) 2 2 c.args.place c.args.reg.now c.turn_rows.new.self c.mix_rows.new.self
+    (made_next drafting (matrix (RotZ c.args.eighths)) (matrix H) 1 2 c.args.place c.args.reg.now c.mix.new.reg c.turn_rows.new.self c.mix.ensures c.turn_rows.ensures)
+    c.mix_rows.ensures)

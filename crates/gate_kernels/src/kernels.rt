@@ -1,0 +1,155 @@
+//! Gates by steps on the rows of a register: rows are exchanged, turned by eighths, or made into their sum and
+//! difference. The other gates are such steps one after another, and are reduced and balanced once at the end.
+ghost use Rattle.std.specs.Prelude.{◌<◌, length, MatchResult};
+ghost use Rattle.state_model.specs.Gate.{matrix};
+ghost use Rattle.state_model.specs.Undo.{product};
+ghost use Rattle.state_model.specs.declared.Gate.TheVariants.{X, H, K, RotX, RotY, RotZ};
+ghost use Rattle.amplitude_register.specs.States.{IsNextKept};
+ghost use Rattle.gate_kernels.specs.Gates.{HasEighths, IsApplied, IsTooLarge, IsMade, drafting, preparing};
+
+use amplitude_register::{Reduce, Register, TooLarge};
+use state_model::Gate;
+
+/// The eighths of the imaginary unit, of -1 and of the inverse of the imaginary unit.
+const QUARTER: u8 = 2;
+
+const HALF: u8 = 4;
+
+const BACK: u8 = 6;
+
+/// Prepares what a gate makes of the register's value, on the qubit at a place; eighths are at most 7.
+/// TooLarge, with the least size of the result, exactly where that is 2^60 or more; then nothing is prepared.
+pub fn prepare_one(reg: &mut Register, place: u8, gate: Gate) -> Result<(), TooLarge>
+    requires place { place < length reg.old.value.qubits }
+    requires eighths { HasEighths gate }
+    ensures { MatchResult result (λ _. IsApplied gate place reg.old reg.new) (λ e. IsTooLarge gate place reg.old reg.new e.size) }
+{
+    reg.facts();
+    match gate {
+        Gate::I => {
+            reg.prepare_same();
+            Ok(())
+        }
+        Gate::X => {
+            exchange(reg, place);
+            Ok(())
+        }
+        Gate::Y => {
+            exchange_and_turn(reg, place);
+            Ok(())
+        }
+        Gate::Z => {
+            turn(reg, place, HALF);
+            Ok(())
+        }
+        Gate::T => {
+            turn(reg, place, 1);
+            Ok(())
+        }
+        Gate::RotZ(eighths) => {
+            turn(reg, place, eighths);
+            Ok(())
+        }
+        Gate::H => {
+            mix(reg, place);
+            reg.seal(Reduce::Delta)
+        }
+        Gate::K => {
+            mix_turned(reg, place);
+            reg.seal(Reduce::Delta)
+        }
+        Gate::RotX(eighths) => {
+            turn_mixed(reg, place, eighths);
+            reg.seal(Reduce::Delta)
+        }
+        Gate::RotY(eighths) => {
+            turn_mixed_turned(reg, place, eighths);
+            reg.seal(Reduce::Delta)
+        }
+    }
+}
+
+/// Prepares the value with the rows of each pair exchanged, as X does.
+fn exchange(reg: &mut Register, place: u8)
+    requires { place < length reg.old.value.qubits }
+    ensures made { IsMade preparing (matrix X) 1 place reg.old reg.new }
+    ensures kept { IsNextKept reg.new.next }
+{
+    reg.prepare_same();
+    reg.exchange_rows(place);
+    reg.facts();
+}
+
+/// Prepares the value with the rows exchanged and then negated where the bit is 1, as Y does up to a phase.
+fn exchange_and_turn(reg: &mut Register, place: u8)
+    requires { place < length reg.old.value.qubits }
+    ensures made { IsMade preparing (product (matrix (RotZ 4)) (matrix X)) 1 place reg.old reg.new }
+    ensures kept { IsNextKept reg.new.next }
+{
+    reg.facts();
+    exchange(reg, place);
+    reg.turn_rows(place, HALF);
+    reg.facts();
+}
+
+/// Prepares the value with the rows turned where the bit is 1, as ROT_Z does.
+fn turn(reg: &mut Register, place: u8, eighths: u8)
+    requires place { place < length reg.old.value.qubits }
+    requires eighths { eighths < 8 }
+    ensures made { IsMade preparing (matrix (RotZ eighths)) 1 place reg.old reg.new }
+    ensures kept { IsNextKept reg.new.next }
+{
+    reg.facts();
+    reg.prepare_same();
+    reg.turn_rows(place, eighths);
+    reg.facts();
+}
+
+/// Drafts the sums and differences of the value's rows, as H does.
+fn mix(reg: &mut Register, place: u8)
+    requires { place < length reg.old.value.qubits }
+    ensures { IsMade drafting (matrix H) 2 place reg.old reg.new }
+{
+    reg.facts();
+    reg.begin_same();
+    reg.mix_rows(place);
+}
+
+/// Drafts what K makes of the value: H between a turn back and a turn by a quarter.
+fn mix_turned(reg: &mut Register, place: u8)
+    requires { place < length reg.old.value.qubits }
+    ensures { IsMade drafting (matrix K) 2 place reg.old reg.new }
+{
+    reg.facts();
+    reg.begin_same();
+    reg.turn_rows(place, BACK);
+    reg.mix_rows(place);
+    reg.turn_rows(place, QUARTER);
+}
+
+/// Drafts what ROT_X makes of the value: a turn between two H.
+fn turn_mixed(reg: &mut Register, place: u8, eighths: u8)
+    requires place { place < length reg.old.value.qubits }
+    requires eighths { eighths < 8 }
+    ensures { IsMade drafting (matrix (RotX eighths)) 4 place reg.old reg.new }
+{
+    reg.facts();
+    mix(reg, place);
+    reg.turn_rows(place, eighths);
+    reg.mix_rows(place);
+}
+
+/// Drafts what ROT_Y makes of the value: ROT_X between a turn back and a turn by a quarter.
+fn turn_mixed_turned(reg: &mut Register, place: u8, eighths: u8)
+    requires place { place < length reg.old.value.qubits }
+    requires eighths { eighths < 8 }
+    ensures { IsMade drafting (matrix (RotY eighths)) 4 place reg.old reg.new }
+{
+    reg.facts();
+    reg.begin_same();
+    reg.turn_rows(place, BACK);
+    reg.mix_rows(place);
+    reg.turn_rows(place, eighths);
+    reg.mix_rows(place);
+    reg.turn_rows(place, QUARTER);
+}

@@ -1,0 +1,42 @@
+-- A register's value: distinct qubits and a coefficient for each row, and the vector that it stands for.
+use Rattle.std.specs.Prelude.{◌≡◌, ℕ, ◌^◌, true, false, cond, List, [], ◌∷◌, length, slice_index_or}
+use Rattle.state_model.specs.Coefficient.{Coefficient, negated}
+use Rattle.state_model.specs.CoefficientList.{at}
+use Rattle.state_model.specs.Row.{is_set, with_bit, turned, is_listed}
+use Rattle.state_model.specs.StateVector.{Vector}
+use Rattle.state_model.specs.Gate.{Matrix, entry}
+use Rattle.state_model.specs.declared.Two.{Two}
+use Rattle.state_model.specs.declared.Two.TheVariants.{Cnot, Cphase}
+use Rattle.state_model.specs.Registers.{register_vector}
+
+-- qubit numbers and a coefficient for each row: bit j of a row is the bit of the j-th qubit
+pub record Amplitudes : Type 0 where
+  pub qubits : List ℕ
+  pub list : List Coefficient
+
+-- the vector that a register's value stands for
+abbrev pub vector_of : Amplitudes → Vector
+vector_of a = register_vector a.qubits a.list
+
+-- the qubit at a place
+abbrev pub qubit_at : Amplitudes → ℕ → ℕ
+qubit_at a place = slice_index_or a.qubits place 0
+
+-- no number is listed twice
+abbrev pub AreDistinct : List ℕ → Type 0
+AreDistinct [] = Unit {0}
+AreDistinct (q ∷ qs) = (is_listed qs q ≡ false) × AreDistinct qs
+
+-- the qubits are distinct, and each row has its coefficient
+pub record HasRows (a : Amplitudes) : Type 0 where
+  pub rows : length a.list ≡ 2 ^ length a.qubits
+  pub distinct : AreDistinct a.qubits
+
+-- the second list is what a gate on the qubit at a place makes of the first, row by row
+abbrev pub IsGateList : Matrix → ℕ → List Coefficient → List Coefficient → Type 0
+IsGateList m place old new = (row : ℕ) → at new row ≡ entry m (is_set place row) (at old (with_bit place false row)) (at old (with_bit place true row))
+
+-- the second list is what a gate on the qubits at two places makes of the first, row by row
+abbrev pub IsTwoGateList : Two → ℕ → ℕ → List Coefficient → List Coefficient → Type 0
+IsTwoGateList Cnot one two old new = (row : ℕ) → at new row ≡ at old (cond (is_set one row) (turned two row) row)
+IsTwoGateList Cphase one two old new = (row : ℕ) → at new row ≡ cond (is_set one row) (cond (is_set two row) (negated (at old row)) (at old row)) (at old row)
