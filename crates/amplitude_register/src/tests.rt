@@ -13,6 +13,12 @@ fn a_pair_has_two_equal_rows(rt: HostRuntime) {
     assert_eq!(rt; reg.coefficient(1).a, 0);
     reg.prepare_same();
     assert_eq!(rt; reg.prepared(), Some(2));
+    reg.swap_rows(0, 1);
+    reg.negate_row(1);
+    reg.flip();
+    assert_eq!(rt; reg.coefficient(1).a, -1);
+    assert_eq!(rt; reg.coefficient(0).a, 0);
+    reg.prepare_same();
     reg.forget();
     assert_eq!(rt; reg.prepared(), None);
     reg.clear();
