@@ -1,5 +1,5 @@
 -- Least sizes of lists are sizes of the vectors that the lists stand for.
-use Rattle.std.proofs.Common.{◌≡◌, ◌≢◌, ℕ, ◌≤◌, ◌^◌, ℤ, pos, ◌≤ℤ◌, nat_abs, List, length, refl, sym, ap, subst, ◌∙◌, arith}
+use Rattle.std.proofs.Common.{◌≡◌, ◌≢◌, ℕ, ◌≤◌, ℤ, pos, ◌≤ℤ◌, nat_abs, List, length, refl, sym, ap, subst, ◌∙◌, arith}
 use mathlib.Core.Path.{fun_ext}
 use borrow.Author.Differences.{ints}
 use Rattle.state_model.specs.Coefficient.{Coefficient, zero_coefficient, one_coefficient, ◌⊗◌}
@@ -7,7 +7,7 @@ use Rattle.state_model.specs.CoefficientList.{at, IsScaled, IsProportional, IsNo
 use Rattle.state_model.specs.Row.{within, AgreeOutside}
 use Rattle.state_model.specs.StateVector.{Vector, IsPart, IsSize, squares_over}
 use Rattle.state_model.specs.Registers.{register_vector}
-use Rattle.state_model.specs.Amplitudes.{Amplitudes, vector_of, AreDistinct, HasRows}
+use Rattle.state_model.specs.Amplitudes.{Amplitudes, vector_of, HasRows}
 use Rattle.state_model.proofs.Domain.{⊗-zero_coefficient}
 use Rattle.state_model.proofs.Ring.{⊗_comm, ⊗_assoc}
 use Rattle.state_model.proofs.SameStates.{⊗-cancel, same_symmetric}
