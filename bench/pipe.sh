@@ -1,0 +1,39 @@
+#!/usr/bin/env bash
+# Messages a second and peak memory of `qron pipe`, on HELLO and on messages of NEW, H and MEASURE.
+set -eu
+top=$(cd "$(dirname "$0")/.." && pwd)
+room=$(mktemp -d)
+trap 'rm -rf "$room"' EXIT
+"$top/qron" pipe </dev/null
+
+# repeated FILE HEX COUNT: the message that many times
+repeated() {
+    python3 - "$@" <<'PYTHON'
+import sys
+name, text, count = sys.argv[1], sys.argv[2], int(sys.argv[3])
+with open(name, "wb") as out:
+    out.write(bytes.fromhex(text) * count)
+PYTHON
+}
+
+# measured NAME FILE COUNT: one run on one core
+measured() {
+    python3 - "$top/qron" "$@" <<'PYTHON'
+import os, resource, subprocess, sys, time
+program, name, path, count = sys.argv[1], sys.argv[2], sys.argv[3], int(sys.argv[4])
+os.sched_setaffinity(0, {min(os.sched_getaffinity(0))})
+with open(path, "rb") as given:
+    start = time.perf_counter()
+    status = subprocess.run([program, "pipe"], stdin=given, stdout=subprocess.DEVNULL).returncode
+    seconds = time.perf_counter() - start
+memory = resource.getrusage(resource.RUSAGE_CHILDREN).ru_maxrss / 1024
+print(f"{name}: {count / seconds:,.0f} messages a second, {memory:.1f} MB at most, status {status}")
+PYTHON
+}
+
+repeated "$room/hello" 0200000700000000 2000000
+measured HELLO "$room/hello" 2000000
+
+# the journal has room for 65,536 entries, three a message
+repeated "$room/measure" 020100000000000c000001000000110000000200 21800
+measured 'NEW, H, MEASURE' "$room/measure" 21800

@@ -1,0 +1,324 @@
+// The program over a link in memory: what it answers to given bytes, words and faults.
+ghost use Rattle.std.specs.Prelude.{◌≡◌, ◌<◌, refl};
+
+use crate::house::House;
+use crate::program::run;
+use hex::{decode, encode};
+use qron_link::{Dice, MemLink};
+use std::alloc::Global;
+use std::test::Fail;
+
+// The largest word.
+const MOST: u64 = 18_446_744_073_709_551_615;
+
+// The same two words for every connection, and then 0 for ever.
+#[derive(Clone, Copy, Drop)]
+struct TwoWords {
+    words: [u64; 2],
+    seat: u16,
+    serial: u16,
+    taken: u64,
+}
+
+impl Dice for TwoWords {
+    ghost use Rattle.std.specs.Prelude.{slice_index};
+
+    ghost word = { λ key _ _ k. slice_index key k };
+
+    ghost key = { λ d. d.words };
+
+    ghost begun_seat = { λ d. d.seat };
+
+    ghost begun_serial = { λ d. d.serial };
+
+    ghost taken = { λ d. d.taken };
+
+    fn begin(&mut self, seat: u16, serial: u16) {
+        self.seat = seat;
+        self.serial = serial;
+        self.taken = 0;
+    }
+
+    fn next(&mut self) -> u64 {
+        let place = self.taken as usize;
+        self.taken += 1;
+        if place < 2 { self.words[place] } else { 0 }
+    }
+}
+
+#[derive(Drop)]
+struct MemHouse {
+    pipe: MemLink,
+    words: [u64; 2],
+    said: Vec<u8>,
+}
+
+impl House for MemHouse {
+    type Pipe = MemLink;
+
+    type Dice = TwoWords;
+
+    ghost pipe_of = { λ h. h.pipe };
+
+    ghost with_pipe = { λ h p. record h { pipe = p } };
+
+    ghost house_faults = { λ _. 0 };
+
+    ghost keys = { λ h _. h.words };
+
+    ghost pipe_is_put = { λ _ _. refl };
+
+    ghost keys_stay = { λ _ _. refl };
+
+    ghost faults_stay = { λ _ _. refl };
+
+    fn pipe(&mut self) -> &mut MemLink {
+        &mut self.pipe
+    }
+
+    fn dice(&mut self, _seed: &[u8; 32]) -> TwoWords {
+        TwoWords {
+            words: self.words,
+            seat: 0,
+            serial: 0,
+            taken: 0,
+        }
+    }
+
+    fn complain(&mut self, line: &[u8]) {
+        let _ = self.said.extend_from_slice(line);
+    }
+}
+
+// What the pipe is given: bytes in hexadecimal, the numbers of the reads and of the writes that fail, and the dice's words.
+#[derive(Clone, Copy)]
+struct Given {
+    input: &'static str,
+    bad_read: Option<u32>,
+    bad_write: Option<u32>,
+    words: [u64; 2],
+}
+
+fn faultless(input: &'static str, words: [u64; 2]) -> Given {
+    Given {
+        input,
+        bad_read: None,
+        bad_write: None,
+        words,
+    }
+}
+
+// The program's status, what it wrote, in hexadecimal, and what it complained.
+#[derive(Drop)]
+struct Answer {
+    status: u8,
+    output: String,
+    said: Vec<u8>,
+}
+
+// What the program does with these words, with reads of at most a piece.
+fn run_with(alloc: Global, given: Given, args: &[&str], piece: u32) -> Result<Answer, Fail>
+    requires { 0 < piece }
+{
+    let mut bad_reads = Vec::new(alloc);
+    if let Some(number) = given.bad_read {
+        bad_reads.push(number)?;
+    }
+    let mut bad_writes = Vec::new(alloc);
+    if let Some(number) = given.bad_write {
+        bad_writes.push(number)?;
+    }
+    let input = decode(alloc, given.input)?;
+    let pipe = MemLink::new(alloc, input, piece, 256, bad_reads, bad_writes)?;
+    let mut house = MemHouse {
+        pipe,
+        words: given.words,
+        said: Vec::new(alloc),
+    };
+    let mut words = Vec::new(alloc);
+    for word in args {
+        words.push(String::from_str(alloc, word)?)?;
+    }
+    let status = run(alloc, &words, &mut house);
+    Ok(Answer {
+        status,
+        output: encode(alloc, house.pipe.written())?,
+        said: house.said,
+    })
+}
+
+#[test]
+fn hello_and_commands_are_answered(rt: HostRuntime) -> Result<(), Fail> {
+    let cases = [
+        // nothing, and HELLO
+        ("", [0, 0], ""),
+        ("0200000700000000", [0, 0], "0200000700000000"),
+        // NEW with NOTIFY, and with NOTIFY and BLOCK
+        (
+            "020100000000000400000101",
+            [0, 0],
+            "020a00000000000200000204000000000000",
+        ),
+        (
+            "020100000000000400000105",
+            [0, 0],
+            "020a00000000000200000204000000000000",
+        ),
+        // a measured qubit in state 0: probability 0 of the outcome 1
+        (
+            "02010000000000080000010000000200",
+            [MOST, 0],
+            "020a0000000000020000020700000000000100",
+        ),
+        (
+            "02010000000000080000010000000200",
+            [0, 0],
+            "020a0000000000020000020700000000000100",
+        ),
+        // the tie of one half
+        (
+            "020100000000000c000001000000110000000200",
+            [9_223_372_036_854_775_807, 0],
+            "020a0000000000020000020700000000000101",
+        ),
+        (
+            "020100000000000c000001000000110000000200",
+            [9_223_372_036_854_775_808, 0],
+            "020a0000000000020000020700000000000100",
+        ),
+        // each measurement has the next word
+        (
+            "020100000000000c000001000000110000000200020100000000000c000001000000110000000200",
+            [MOST, 0],
+            "020a0000000000020000020700000000000100020a0000000000020000020700000000000101",
+        ),
+        // a second qubit has no room, and nothing follows the error
+        (
+            "020100000000000c000001010000010100001101",
+            [0, 0],
+            "020a00000000000200000215000000000000",
+        ),
+        // no qubit is held
+        (
+            "020100000000000400001100020100000000000400000200",
+            [0, 0],
+            "02190000000000000219000000000000",
+        ),
+        // no command
+        ("0201000000000000", [0, 0], ""),
+    ];
+    for (input, words, output) in cases {
+        for piece in [1, 2, 7, 65_536] {
+            let answer = run_with(rt.alloc(), faultless(input, words), &["pipe"], piece)?;
+            assert_eq!(rt; answer.status, 0, "{input}");
+            assert_eq!(rt; answer.output.as_str(), output, "{input}");
+        }
+    }
+    Ok(())
+}
+
+#[test]
+fn refused_messages_have_one_error(rt: HostRuntime) -> Result<(), Fail> {
+    let cases = [
+        // a command cut short by its body: nothing of it is executed
+        ("0201000000000006000001000000", "0214000000000000"),
+        (
+            "0201000000000006000001000000020100000000000400000100",
+            "0214000000000000020a0000000000020000",
+        ),
+        // other versions and types
+        ("0100000000000000", "0216000000000000"),
+        ("0208000000000000", "0216000000000000"),
+        ("0203000000000000", "0216000000000000"),
+        ("020b000000000000", "0216000000000000"),
+        // an instruction that is no instruction, and the option ACTION
+        ("02010000000000080000010000000900", "0216000000000000"),
+        ("020100000000000400000102", "0216000000000000"),
+    ];
+    for (input, output) in cases {
+        for piece in [1, 7] {
+            let answer = run_with(rt.alloc(), faultless(input, [0, 0]), &["pipe"], piece)?;
+            assert_eq!(rt; answer.status, 0, "{input}");
+            assert_eq!(rt; answer.output.as_str(), output, "{input}");
+        }
+    }
+    Ok(())
+}
+
+#[test]
+fn cut_input_ends_with_a_status(rt: HostRuntime) -> Result<(), Fail> {
+    let cases = [
+        // within a header, within a body, and within the header behind a message
+        ("020100", ""),
+        ("020100000000000c0000010000", ""),
+        ("020000070000000002", "0200000700000000"),
+    ];
+    for (input, output) in cases {
+        let answer = run_with(rt.alloc(), faultless(input, [0, 0]), &["pipe"], 2)?;
+        assert_eq!(rt; answer.status, 5, "{input}");
+        assert_eq!(rt; answer.output.as_str(), output, "{input}");
+        assert!(rt; answer.said.is_empty(), "{input}");
+    }
+    Ok(())
+}
+
+#[test]
+fn faults_are_told(rt: HostRuntime) -> Result<(), Fail> {
+    let new = faultless("020100000000000400000101", [0, 0]);
+    // the first read, the first write and the second
+    let cases = [
+        (Some(0), None, ""),
+        (None, Some(0), ""),
+        (None, Some(1), "020a0000000000020000"),
+    ];
+    for (bad_read, bad_write, output) in cases {
+        let faulty = Given {
+            bad_read,
+            bad_write,
+            ..new
+        };
+        let answer = run_with(rt.alloc(), faulty, &["pipe"], 7)?;
+        assert_eq!(rt; answer.status, 4, "{output}");
+        assert_eq!(rt; answer.output.as_str(), output);
+        assert_eq!(rt; answer.said.as_slice(), b"qron: fault".as_slice());
+    }
+    Ok(())
+}
+
+#[test]
+fn other_words_are_refused(rt: HostRuntime) -> Result<(), Fail> {
+    let hello = faultless("0200000700000000", [0, 0]);
+    let none: [&str; 0] = [];
+    for args in [none.as_slice(), &["dance"], &["--help"], &["pipe", "x"]] {
+        let answer = run_with(rt.alloc(), hello, args, 7)?;
+        assert_eq!(rt; answer.status, 2);
+        assert_eq!(rt; answer.output.as_str(), "");
+        assert_eq!(rt; answer.said.as_slice(), b"qron: words".as_slice());
+    }
+    Ok(())
+}
+
+#[test]
+fn long_body_is_passed_over(rt: HostRuntime) -> Result<(), Fail> {
+    let alloc = rt.alloc();
+    // a COMMAND of 65,537 bytes, and a HELLO behind it
+    let mut input = decode(alloc, "0201000000010001")?;
+    for _ in 0..65_537 {
+        input.push(0)?;
+    }
+    input.extend_from_slice(&[2, 0, 0, 7, 0, 0, 0, 0])?;
+    let pipe = MemLink::new(alloc, input, 4096, 256, Vec::new(alloc), Vec::new(alloc))?;
+    let mut house = MemHouse {
+        pipe,
+        words: [0, 0],
+        said: Vec::new(alloc),
+    };
+    let mut words = Vec::new(alloc);
+    words.push(String::from_str(alloc, "pipe")?)?;
+    assert_eq!(rt; run(alloc, &words, &mut house), 0);
+    assert_eq!(rt;
+        house.pipe.written(),
+        decode(alloc, "02140000000000000200000700000000")?.as_slice()
+    );
+    Ok(())
+}

@@ -1,0 +1,50 @@
+#!/usr/bin/env bash
+# The built program on the pipe: words, bytes and statuses.
+set -u
+top=$(cd "$(dirname "$0")/.." && pwd)
+room=$(mktemp -d)
+trap 'rm -rf "$room"' EXIT
+failed=0
+
+bytes() { printf '%b' "$(sed 's/../\\x&/g' <<<"$1")"; }
+hex() { od -An -v -tx1 "$1" | tr -d ' \n'; }
+
+# expect NAME STATUS OUTPUT COMPLAINT INPUT WORDS..: output and input in hexadecimal
+expect() {
+    local name=$1 status=$2 output=$3 complaint=$4 input=$5 got
+    shift 5
+    bytes "$input" | "$top/qron" "$@" >"$room/out" 2>"$room/err"
+    got="${PIPESTATUS[1]} $(hex "$room/out") $(cat "$room/err")"
+    if [ "$got" != "$status $output $complaint" ]; then
+        echo "$name: want $status $output $complaint, got $got" >&2
+        failed=1
+    fi
+}
+
+"$top/qron" pipe </dev/null || exit 1
+hello=0200000700000000
+new=020a0000000000020000
+
+expect 'HELLO' 0 $hello '' $hello pipe
+expect 'NEW, H and MEASURE draw the first word' 0 ${new}020700000000000100 '' \
+    020100000000000c000001000000110000000200 pipe
+expect 'DONE follows a NOTIFY' 0 ${new}0204000000000000 '' 020100000000000400000105 pipe
+expect 'another type' 0 0216000000000000 '' 0208000000000000 pipe
+expect 'a header cut short' 5 '' '' 020100 pipe
+expect 'a body cut short' 5 $hello '' ${hello}020100000000000c0000010000 pipe
+expect 'no word' 2 '' 'qron: words' $hello
+expect 'an unknown word' 2 '' 'qron: words' $hello dance
+expect 'a word too many' 2 '' 'qron: words' $hello pipe x
+expect 'no help' 2 '' 'qron: words' $hello --help
+
+# a closed output is a fault
+bytes $hello | "$top/qron" pipe >&- 2>"$room/err"
+got="${PIPESTATUS[1]} $(cat "$room/err")"
+[ "$got" = "4 qron: fault" ] || { echo "closed output: got $got" >&2; failed=1; }
+
+# from another folder
+(cd / && bytes $hello | "$top/qron" pipe >"$room/out")
+[ "$(hex "$room/out")" = $hello ] || { echo 'from another folder' >&2; failed=1; }
+
+[ $failed -eq 0 ] && echo 'pipe: all cases passed'
+exit $failed
