@@ -1,12 +1,12 @@
 -- Exchanged and negated rows: the weight and the common divisors stay.
-use Rattle.std.proofs.Common.{◌≡◌, ◌≢◌, ℕ, zero, suc, ◌<◌, ℤ, ◌+ℤ◌, pos, ◌<ℤ◌, ◌^◌, List, [], ◌∷◌, length, slice_set, refl, sym, ap, subst, ◌∙◌, arith, ⊎_elim}
+use Rattle.std.proofs.Common.{◌≡◌, ◌≢◌, ℕ, zero, suc, ◌<◌, ◌+ℤ◌, pos, ◌<ℤ◌, ◌^◌, List, [], ◌∷◌, length, slice_set, refl, sym, ap, subst, ◌∙◌, arith, ⊎_elim}
 use borrow.Author.Differences.{ints}
 use Rattle.std.proofs.lemmas.Bool.{cases_eq}
 use Rattle.std.proofs.lemmas.List.{length-set, get_or-set_same, get_or-set_other}
-use Rattle.state_model.specs.Coefficient.{Coefficient, zero_coefficient, one_coefficient, ◌⊗◌, negated, Weight, weight, weight_sum}
+use Rattle.state_model.specs.Coefficient.{Coefficient, zero_coefficient, ◌⊗◌, negated, Weight, weight, weight_sum}
 use Rattle.state_model.specs.Divisors.{Divides, IsBalanced}
-use Rattle.state_model.specs.CoefficientList.{at, DividesAll, IsReduced, IsNormal, total_weight}
-use Rattle.state_model.proofs.Expressions.{same_weight, Quad, quad, mul_quad, weight_quad, equal_quads, equal_pairs, coordinates}
+use Rattle.state_model.specs.CoefficientList.{at, IsReduced, total_weight}
+use Rattle.state_model.proofs.Expressions.{same_weight, quad, mul_quad, weight_quad, equal_quads, equal_pairs, coordinates}
 use Rattle.state_model.proofs.Polynomial.{minus}
 use Rattle.amplitude_register.specs.States.{IsKept}
 use Rattle.state_model.specs.Amplitudes.{Amplitudes}

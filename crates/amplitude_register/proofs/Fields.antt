@@ -1,5 +1,5 @@
 -- A register's fields against what contracts see of it.
-use Rattle.std.proofs.Common.{◌≡◌, ◌≢◌, ℕ, zero, suc, ◌<◌, ◌≤◌, ◌^◌, ℤ, pos, ◌≤ℤ◌, ◌<ℤ◌, List, [], ◌∷◌, length, map, take, get_or, slice_set, replicate, min, length-take, length-take-le, Bool, true, false, cond, Option, Some, None, refl, sym, ap, subst, ◌∙◌, arith, nat_abs, negsuc, ◌||◌}
+use Rattle.std.proofs.Common.{◌≡◌, ◌≢◌, ℕ, zero, suc, ◌<◌, ◌≤◌, ◌^◌, ℤ, pos, ◌≤ℤ◌, ◌<ℤ◌, List, [], ◌∷◌, length, map, take, get_or, slice_set, replicate, min, length-take, length-take-le, Bool, true, false, cond, Some, refl, sym, ap, subst, ◌∙◌, arith, nat_abs, negsuc, ◌||◌}
 use Rattle.std.proofs.lemmas.List.{length-map, get_or_read, get_or-take, map-set}
 use Rattle.std.proofs.Math.Seq.{take-set-lt}
 use native.Mathlib.Nat.{pow-le-pow_right}

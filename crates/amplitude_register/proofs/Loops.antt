@@ -1,5 +1,5 @@
 -- Loops that write each entry of a list.
-use Rattle.std.proofs.Common.{◌≡◌, ◌≢◌, ℕ, ◌+◌, ◌<◌, ◌≤◌, map, length, get_or, slice_set, List, [], ◌∷◌, refl, sym, subst, ◌∙◌, ap, arith, ◌⊎◌, ⊎_elim, inl, inr, get_or-set_other, get_or-set_same}
+use Rattle.std.proofs.Common.{◌≡◌, ◌≢◌, ℕ, ◌+◌, ◌<◌, ◌≤◌, map, length, get_or, slice_set, List, refl, sym, ◌∙◌, ap, arith, ⊎_elim, get_or-set_other, get_or-set_same}
 use Rattle.std.proofs.lemmas.Bool.{cases_lt}
 use Rattle.std.proofs.lemmas.List.{length-map}
 use Rattle.state_model.specs.Coefficient.{Coefficient, zero_coefficient, ◌⊗◌}

@@ -1,19 +1,16 @@
 -- Rows of a prepared value that are exchanged or negated, in the fields and in what contracts see.
-use Rattle.std.proofs.Common.{◌≡◌, ℕ, ◌<◌, ◌≤◌, ◌^◌, List, length, map, take, get_or, slice_set, refl, sym, ap, subst, ◌∙◌, arith}
-use Rattle.std.proofs.lemmas.List.{length-set, length-map}
+use Rattle.std.proofs.Common.{◌≡◌, ℕ, ◌<◌, List, length, map, take, get_or, slice_set, refl, sym, ap, subst, ◌∙◌}
 use Rattle.state_model.specs.Coefficient.{Coefficient, negated}
 use Rattle.state_model.specs.CoefficientList.{at, total_weight}
 use Rattle.state_model.specs.Amplitudes.{Amplitudes}
 use Rattle.omega_ring.specs.Views.{omega_value, weight_value}
-use Rattle.omega_ring.specs.Range.{CoordinatesBelow}
 use Rattle.omega_ring.specs.declared.coefficients.Omega.{Omega}
-use Rattle.amplitude_register.specs.States.{RegisterState, Next, prepared, IsPrepared, IsPresent, IsKept, next_value, with_row}
-use Rattle.amplitude_register.specs.Held.{IsBlock, IsStage, next_of, amplitudes_of}
+use Rattle.amplitude_register.specs.States.{RegisterState, prepared, IsPrepared, IsKept, next_value, with_row}
+use Rattle.amplitude_register.specs.Held.{IsStage, next_of, amplitudes_of}
 use Rattle.amplitude_register.specs.declared.block.Block.{Block}
 use Rattle.amplitude_register.specs.declared.block.Stage.{Stage}
 use Rattle.amplitude_register.specs.declared.block.Stage.TheVariants.{Empty, Open, Weighed, Prepared}
 use Rattle.amplitude_register.proofs.Entries.{zero_omega}
-use Rattle.amplitude_register.proofs.Sums.{within_sum}
 use Rattle.amplitude_register.proofs.Fields.{state, front, ready_state, ready_value, front_set, front_row, below_front, list_of}
 use Rattle.amplitude_register.proofs.ChangedRows.{negated_row, swapped_rows, negated_total, swapped_total, negated_kept, swapped_kept}
 

@@ -1,5 +1,5 @@
 -- Products with 1 - w, 1 + w and the units, coordinate by coordinate.
-use Rattle.std.proofs.Common.{◌≡◌, ℤ, pos, ◌+ℤ◌, ◌-ℤ◌, neg_ℤ, refl, ◌∙◌, [], ◌∷◌}
+use Rattle.std.proofs.Common.{◌≡◌, pos, ◌+ℤ◌, ◌-ℤ◌, refl, [], ◌∷◌}
 use Rattle.state_model.specs.Coefficient.{Coefficient, ◌⊗◌, Weight}
 use Rattle.state_model.specs.Divisors.{weight_product, unit_up, unit_down}
 use Rattle.state_model.proofs.Polynomial.{Term, number, plus, minus, less}

@@ -1,5 +1,5 @@
 -- What the code's operations at 64 and 128 bits give, where the numbers are small.
-use Rattle.std.proofs.Common.{◌≡◌, ◌<◌, ◌^◌, ℤ, pos, ◌+ℤ◌, ◌-ℤ◌, ◌≤ℤ◌, ◌<ℤ◌, unsigned_abs, FitsSigned, to_z, of_z, refl, sym, ap, ◌∙◌, arith}
+use Rattle.std.proofs.Common.{◌≡◌, ◌<◌, ◌^◌, ℤ, pos, ◌+ℤ◌, ◌-ℤ◌, ◌≤ℤ◌, ◌<ℤ◌, unsigned_abs, FitsSigned, to_z, of_z, sym, ap, ◌∙◌, arith}
 use Rattle.std.proofs.lemmas.Int.{ints, to_z-of_z, fits_signed_from_abs}
 use mir.Syntax.{w64, w128}
 use Rattle.amplitude_register.proofs.Products.{conjugate_is, lower_pair_is, upper_pair_is}
@@ -11,7 +11,6 @@ use Rattle.state_model.proofs.Ring.{same_coordinates}
 use Rattle.state_model.proofs.Inequalities.{order}
 use Rattle.state_model.proofs.Delta.{⊗-delta}
 use Rattle.amplitude_register.specs.Multiples.{delta_conjugate}
-use Rattle.state_model.specs.CoefficientList.{at}
 
 -- a number as its bits are read
 abbrev pub short : ℤ → ℤ

@@ -1,27 +1,27 @@
 -- Steps on a register's rows one after another, and what they stand for.
 use Rattle.std.specs.Prelude.{Result, Ok, Err, MatchResult}
-use Rattle.std.proofs.Common.{Bool, true, false, cond, ◌≡◌, ◌≢◌, ℕ, ◌*◌, ◌<◌, ◌≤◌, ◌^◌, ℤ, pos, ◌+ℤ◌, ◌*ℤ◌, ◌<ℤ◌, ◌≤ℤ◌, nat_abs, List, length, slice_index_or, refl, sym, ap, subst, ◌∙◌, arith}
+use Rattle.std.proofs.Common.{Bool, true, false, cond, ◌≡◌, ◌≢◌, ℕ, ◌*◌, ◌<◌, ℤ, pos, nat_abs, List, length, refl, sym, ap, subst, ◌∙◌}
 use mathlib.Core.Path.{fun_ext}
 use Rattle.state_model.specs.Row.{is_set, with_bit}
 use Rattle.state_model.proofs.Gates.{with_own_bit}
 use Rattle.state_model.proofs.Euclid.{one-⊗}
 use Rattle.state_model.specs.Coefficient.{Coefficient, zero_coefficient, one_coefficient, ◌⊗◌, root, Weight, scaled}
-use Rattle.state_model.specs.CoefficientList.{at, total_weight, IsReduced, IsNonzero, HasDeltaDivisors}
+use Rattle.state_model.specs.CoefficientList.{at, total_weight, IsNonzero, HasDeltaDivisors}
 use Rattle.state_model.specs.StateVector.{Vector, IsSameState, IsSize}
 use Rattle.state_model.specs.Gate.{Matrix, matrix, entry, gate}
 use Rattle.state_model.specs.Undo.{product}
 use Rattle.state_model.specs.Registers.{register_vector}
 use Rattle.state_model.specs.Amplitudes.{Amplitudes, vector_of, qubit_at, HasRows, IsGateList}
 use Rattle.state_model.specs.declared.Gate.{Gate}
-use Rattle.state_model.specs.declared.Gate.TheVariants.{I, X, Y, Z, T, H, K, RotX, RotY, RotZ}
+use Rattle.state_model.specs.declared.Gate.TheVariants.{I, X, Y, Z, T, RotZ}
 use Rattle.state_model.proofs.Integers.{mul_assoc_ℤ}
 use Rattle.state_model.proofs.Draws.{same_weight}
 use Rattle.state_model.proofs.Domain.{⊗-domain, ⊗-zero_coefficient}
 use Rattle.state_model.proofs.Ring.{⊗_comm, ⊗_assoc}
-use Rattle.state_model.proofs.SameStates.{same_reflexive, same_symmetric}
+use Rattle.state_model.proofs.SameStates.{same_reflexive}
 use Rattle.state_model.proofs.RegisterGates.{gate_list}
 use Rattle.state_model.proofs.GateLists.{first_row, second_row, gate_lists, gate_delta_divisors, gate_nonzero}
-use Rattle.amplitude_register.specs.States.{RegisterState, Next, draft, prepared, empty, next_value, IsDraft, IsPresent, IsNextKept, IsKept, IsGateStep, IsSealed, IsRefused}
+use Rattle.amplitude_register.specs.States.{RegisterState, prepared, next_value, IsDraft, IsPresent, IsNextKept, IsKept, IsGateStep, IsSealed, IsRefused}
 use Rattle.gate_kernels.specs.Gates.{Kind, drafting, preparing, at_kind, IsMade, IsApplied, IsTooLarge, gate_at}
 use Rattle.gate_kernels.proofs.Matrices.{y_entry, back_nonzero}
 

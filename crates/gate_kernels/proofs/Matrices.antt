@@ -1,12 +1,11 @@
 -- The matrices of K, ROT_X and ROT_Y as products, and that of Y up to a factor.
-use Rattle.std.proofs.Common.{◌≡◌, ◌≢◌, ℕ, Bool, true, false, ℤ, pos, neg_ℤ, [], ◌∷◌, refl, sym, ap, ◌∙◌}
+use Rattle.std.proofs.Common.{◌≡◌, ◌≢◌, ℕ, Bool, true, false, ℤ, pos, neg_ℤ, [], refl, ap}
 use Rattle.state_model.specs.Coefficient.{Coefficient, zero_coefficient, one_coefficient, ◌⊕◌, ◌⊗◌, negated, root}
 use Rattle.state_model.specs.Gate.{Matrix, imaginary, matrix, entry}
 use Rattle.state_model.specs.Undo.{product}
 use Rattle.state_model.specs.declared.Gate.TheVariants.{X, Y, H, K, RotX, RotY, RotZ}
 use Rattle.state_model.proofs.Polynomial.{number, minus}
 use Rattle.state_model.proofs.Expressions.{Quad, quad, add_quad, mul_quad, equal_quads, coordinates}
-use Rattle.state_model.proofs.RegisterLists.{one_not_zero}
 
 same_matrix : (m n : Matrix) → m.zero_zero ≡ n.zero_zero → m.zero_one ≡ n.zero_one → m.one_zero ≡ n.one_zero → m.one_one ≡ n.one_one → m ≡ n
 same_matrix m n a b c d = λ i. record { zero_zero = a i; zero_one = b i; one_zero = c i; one_one = d i }

@@ -3,9 +3,9 @@ use Rattle.std.proofs.Common.{◌≡◌, ℕ, ◌<◌, ◌^◌, [], ◌∷◌, L
 use Rattle.std.proofs.lemmas.List.{get_or-set_same, length-replicate}
 use Rattle.std.proofs.lemmas.Nat.{pow_pos}
 use Rattle.amplitude_register.specs.States.{RegisterState, Next, draft, next_value, zeros, with_row}
-use Rattle.state_model.specs.Coefficient.{Coefficient, zero_coefficient, one_coefficient, ◌⊗◌}
+use Rattle.state_model.specs.Coefficient.{Coefficient, zero_coefficient, one_coefficient}
 use Rattle.state_model.specs.CoefficientList.{at, HasDeltaDivisors}
-use Rattle.state_model.specs.Divisors.{Divides, IsDeltaPower}
+use Rattle.state_model.specs.Divisors.{Divides}
 use Rattle.state_model.specs.Row.{is_listed}
 use Rattle.state_model.specs.Amplitudes.{AreDistinct}
 use Rattle.state_model.proofs.Ring.{⊗_comm}

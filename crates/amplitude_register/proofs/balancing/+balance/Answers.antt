@@ -1,7 +1,6 @@
-use Rattle.std.proofs.Common.{◌≡◌, ◌<◌, ◌^◌, ◌+ℤ◌, ◌≤ℤ◌, ◌<ℤ◌, pos, unsigned_abs, map, arith}
-use Rattle.std.proofs.lemmas.Int.{ints}
+use Rattle.std.proofs.Common.{◌<◌, unsigned_abs, map, arith}
 use Rattle.amplitude_register.proofs.Sums.{sum_within, small_of}
-use Rattle.amplitude_register.proofs.Steps.{IsTurned, down_step, up_step}
+use Rattle.amplitude_register.proofs.Steps.{down_step, up_step}
 use Rattle.omega_ring.specs.Views.{omega_value, weight_value}
 use Rattle.state_model.proofs.RegisterSizes.{scaled_self, scaled_trans}
 use Rattle.amplitude_register.proofs.balancing.+balance.Goals as goal

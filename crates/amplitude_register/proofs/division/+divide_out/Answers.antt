@@ -1,7 +1,7 @@
-use Rattle.std.proofs.Common.{◌≡◌, ◌<◌, ◌^◌, ◌≤ℤ◌, ◌<ℤ◌, pos, unsigned_abs, map, arith}
+use Rattle.std.proofs.Common.{◌<◌, ◌≤ℤ◌, pos, unsigned_abs, map, arith}
 use Rattle.std.proofs.lemmas.Int.{ints}
 use Rattle.amplitude_register.proofs.Sums.{sum_within, real_of}
-use Rattle.amplitude_register.proofs.Steps.{IsDivided, lower_even, upper_even, lower_step, upper_step}
+use Rattle.amplitude_register.proofs.Steps.{lower_even, upper_even, lower_step, upper_step}
 use Rattle.state_model.specs.Divisors.{weight_norm}
 use Rattle.omega_ring.specs.Views.{omega_value, weight_value}
 use Rattle.state_model.proofs.Inequalities.{order}

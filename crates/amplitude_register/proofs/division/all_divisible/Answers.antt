@@ -1,4 +1,4 @@
-use Rattle.std.proofs.Common.{◌≡◌, ℕ, ◌<◌, ◌^◌, ◌+◌, map, get_or, sym, ap, subst, ◌∙◌, arith, below_more, refl}
+use Rattle.std.proofs.Common.{ℕ, ◌^◌, get_or, sym, subst, arith, below_more, refl}
 use Rattle.state_model.specs.Coefficient.{Coefficient}
 use Rattle.state_model.specs.Divisors.{Divides, delta}
 use Rattle.omega_ring.specs.Views.{omega_value}

@@ -1,4 +1,4 @@
-use Rattle.std.proofs.Common.{◌≡◌, ◌≢◌, ℕ, ◌<◌, slice_index_or}
+use Rattle.std.proofs.Common.{◌≢◌, ℕ, ◌<◌, slice_index_or}
 use Rattle.amplitude_register.proofs.fronts.place_in.Given as goal
 
 abbrev pub invariant-loop-k : goal.invariant-loop-k

@@ -1,4 +1,3 @@
-use Rattle.std.proofs.Common.{arith}
 use Rattle.amplitude_register.proofs.Fields.{take_one}
 use Rattle.amplitude_register.proofs.fronts.write_number.Goals as goal
 

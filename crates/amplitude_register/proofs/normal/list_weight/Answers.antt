@@ -1,6 +1,5 @@
-use Rattle.std.proofs.Common.{◌≡◌, ℕ, ◌<◌, ◌≤◌, ◌^◌, ◌+◌, ◌+ℤ◌, ◌<ℤ◌, ℤ, pos, map, get_or, length, sym, ap, subst, ◌∙◌, arith, refl, unsigned_abs, FitsSigned}
-use Rattle.std.proofs.lemmas.Int.{ints}
-use Rattle.amplitude_register.proofs.Sums.{weight_until, until_more, until_whole, within_sum, IsStored, stored_until, stored_more, more_fits_x, more_fits_y}
+use Rattle.std.proofs.Common.{◌^◌, map, sym, ap, subst, ◌∙◌, arith}
+use Rattle.amplitude_register.proofs.Sums.{within_sum, stored_until, stored_more, more_fits_x, more_fits_y}
 use Rattle.state_model.specs.Coefficient.{Coefficient, weight}
 use Rattle.omega_ring.specs.Views.{omega_value, weight_value}
 use Rattle.omega_ring.specs.Range.{CoordinatesBelow}

@@ -1,4 +1,4 @@
-use Rattle.std.proofs.Common.{◌≡◌, map, sym}
+use Rattle.std.proofs.Common.{map}
 use Rattle.amplitude_register.proofs.Steps.{normal_end}
 use Rattle.omega_ring.specs.Views.{omega_value, weight_value}
 use Rattle.state_model.proofs.RegisterSizes.{scaled_trans}

@@ -1,4 +1,3 @@
-use Rattle.std.proofs.Common.{refl}
 use Rattle.amplitude_register.proofs.RowPairs.{set_test}
 use Rattle.amplitude_register.proofs.rows.has_bit.Goals as goal
 

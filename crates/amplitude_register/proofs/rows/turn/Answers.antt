@@ -1,7 +1,7 @@
-use Rattle.std.proofs.Common.{◌≡◌, ◌^◌, ◌+◌, ℕ, List, true, false, refl, sym, ap, subst, ◌∙◌, arith}
+use Rattle.std.proofs.Common.{◌^◌, ◌+◌, List, true, refl, sym, ap, subst, ◌∙◌, arith}
 use Rattle.state_model.specs.Gate.{matrix}
 use Rattle.state_model.specs.declared.Gate.TheVariants.{RotZ}
-use Rattle.amplitude_register.proofs.RowPairs.{gate_none, gate_skip, gate_both, gate_high, gate_whole, gate_low, gate_top, low_range, high_range, value_at, pair_of, IsGateUntil, wider}
+use Rattle.amplitude_register.proofs.RowPairs.{gate_none, gate_skip, gate_high, gate_whole, gate_top, high_range, value_at, IsGateUntil, wider}
 use Rattle.amplitude_register.proofs.rows.turn.Goals as goal
 use Rattle.amplitude_register.proofs.rows.turn.Goals.{then-not-has_bit, else-not-has_bit}
 use Rattle.state_model.specs.Coefficient.{Coefficient, ◌⊗◌, root}

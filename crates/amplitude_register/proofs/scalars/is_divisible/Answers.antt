@@ -1,4 +1,4 @@
-use Rattle.std.proofs.Common.{IsTrue, sym, subst, ◌∙◌}
+use Rattle.std.proofs.Common.{sym, ◌∙◌}
 use Rattle.state_model.proofs.Delta.{even_from_divides, divides_from_even}
 use Rattle.amplitude_register.proofs.Stored.{sum_is}
 use Rattle.omega_ring.specs.Views.{omega_value}

@@ -1,10 +1,7 @@
-use Rattle.std.proofs.Common.{◌≡◌, refl, sym, ap, subst, ◌∙◌}
 use Rattle.state_model.specs.Gate.{matrix}
-use Rattle.state_model.specs.Undo.{product}
-use Rattle.state_model.specs.declared.Gate.TheVariants.{I, X, Y, Z, T, H, K, RotX, RotY, RotZ}
-use Rattle.gate_kernels.specs.Gates.{drafting, preparing, IsMade, IsApplied, IsTooLarge}
-use Rattle.gate_kernels.proofs.Matrices.{k_product, x_product, y_product}
-use Rattle.gate_kernels.proofs.Made.{made_first, made_next, made_as, applied_exactly, applied_y, seal_nonzero, seal_divisors, sealed_applied, refused_large}
+use Rattle.state_model.specs.declared.Gate.TheVariants.{X, RotZ}
+use Rattle.gate_kernels.specs.Gates.{preparing}
+use Rattle.gate_kernels.proofs.Made.{made_next}
 use Rattle.gate_kernels.proofs.kernels.exchange_and_turn.Goals as goal
 
 pub returns-clause-made : goal.returns-clause-made

@@ -1,4 +1,4 @@
-use Rattle.std.proofs.Common.{◌≡◌, ◌≤◌, ◌^◌, ◌∙◌, length, ap, sym, subst, arith, rules}
+use Rattle.std.proofs.Common.{◌∙◌, length, ap, sym, subst, arith}
 use Rattle.amplitude_register.specs.States.{RegisterState}
 use Rattle.amplitude_register.specs.Held.{amplitudes_of, next_of}
 use Rattle.amplitude_register.proofs.Fields.{begin_is, power_le}

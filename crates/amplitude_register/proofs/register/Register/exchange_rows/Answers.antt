@@ -1,6 +1,6 @@
-use Rattle.std.proofs.Common.{◌≡◌, ◌^◌, ◌<ℤ◌, ℕ, pos, List, length, map, take, refl, sym, ap, subst, ◌∙◌, arith}
-use Rattle.amplitude_register.proofs.Fields.{block_room, block_rows, open_value, draft_present, place_below, has_place, present_range, draft_range, weighed_small, stepped, gate_step, list_of, mixed_stage, turned_stage, not_prepared, turned_scale, exchanged_scale}
-use Rattle.amplitude_register.specs.Held.{amplitudes_of, next_of}
+use Rattle.std.proofs.Common.{map, take, refl, ◌∙◌, arith}
+use Rattle.amplitude_register.proofs.Fields.{block_room, place_below, has_place, stepped, gate_step, list_of, turned_stage, exchanged_scale}
+use Rattle.amplitude_register.specs.Held.{amplitudes_of}
 use Rattle.state_model.specs.declared.Gate.TheVariants.{X}
 use Rattle.state_model.specs.Gate.{matrix}
 use Rattle.omega_ring.specs.Views.{omega_value}

@@ -1,6 +1,6 @@
-use Rattle.std.proofs.Common.{◌≡◌, ◌≤◌, length, subst, sym, ap, ◌∙◌, arith}
-use Rattle.amplitude_register.specs.States.{RegisterState, IsKept, IsNextKept}
-use Rattle.amplitude_register.proofs.Fields.{block_rows, block_count, next_kept}
+use Rattle.std.proofs.Common.{subst}
+use Rattle.amplitude_register.specs.States.{RegisterState, IsNextKept}
+use Rattle.amplitude_register.proofs.Fields.{block_rows, next_kept}
 use Rattle.state_model.specs.Amplitudes.{HasRows}
 use Rattle.amplitude_register.proofs.register.Register.facts.Goals as goal
 

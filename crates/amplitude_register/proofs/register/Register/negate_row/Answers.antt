@@ -1,13 +1,12 @@
-use Rattle.std.proofs.Common.{◌≡◌, ℕ, ◌<◌, ◌^◌, List, length, map, take, get_or, slice_set, refl, sym, ap, subst, ◌∙◌, arith}
+use Rattle.std.proofs.Common.{◌^◌, take, refl, sym, ap, subst, ◌∙◌, arith}
 use Rattle.std.proofs.lemmas.List.{get_or_read, length-set}
 use Rattle.state_model.specs.Coefficient.{Coefficient, negated}
-use Rattle.state_model.specs.Amplitudes.{Amplitudes}
 use Rattle.omega_ring.specs.Views.{omega_value}
 use Rattle.omega_ring.specs.Range.{CoordinatesBelow}
 use Rattle.amplitude_register.specs.Held.{amplitudes_of}
 use Rattle.amplitude_register.proofs.Entries.{zero_omega}
-use Rattle.amplitude_register.proofs.Fields.{block_room, below_front, front_row, list_of, kept_range}
-use Rattle.amplitude_register.proofs.PreparedRows.{prepared_stage, ready_row, negated_is, swapped_is, negated_stage, swapped_stage}
+use Rattle.amplitude_register.proofs.Fields.{block_room, below_front, front_row, kept_range}
+use Rattle.amplitude_register.proofs.PreparedRows.{prepared_stage, ready_row, negated_is, negated_stage}
 use Rattle.std.specs.Vec.{with_item}
 use Rattle.amplitude_register.proofs.register.Register.negate_row.Goals as goal
 

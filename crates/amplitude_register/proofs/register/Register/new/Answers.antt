@@ -1,4 +1,4 @@
-use Rattle.std.proofs.Common.{arith, ◌∙◌, refl}
+use Rattle.std.proofs.Common.{arith, refl}
 use Rattle.amplitude_register.proofs.Fields.{kept_one, one_weighed, distinct_none}
 use Rattle.amplitude_register.proofs.register.Register.new.Goals as goal
 

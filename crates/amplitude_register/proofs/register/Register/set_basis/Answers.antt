@@ -1,5 +1,4 @@
-use Rattle.std.proofs.Common.{rules, arith, ◌^◌, ◌∙◌, length, refl, sym, subst}
-use Rattle.amplitude_register.specs.States.{RegisterState}
+use Rattle.std.proofs.Common.{arith, ◌∙◌, refl, sym, subst}
 use Rattle.amplitude_register.specs.Held.{amplitudes_of, next_of}
 use Rattle.amplitude_register.proofs.Fields.{set_basis_is, kept_basis, basis_weighed, distinct_one, two_le}
 use Rattle.state_model.specs.Amplitudes.{AreDistinct}

@@ -1,4 +1,4 @@
-use Rattle.std.proofs.Common.{rules, arith, ◌^◌, ◌∙◌, length, refl, sym, subst, ap}
+use Rattle.std.proofs.Common.{arith, ◌∙◌, refl, sym, subst, ap}
 use Rattle.amplitude_register.specs.States.{RegisterState}
 use Rattle.amplitude_register.specs.Held.{amplitudes_of, next_of}
 use Rattle.amplitude_register.proofs.Fields.{set_basis_is, kept_pair, distinct_pair_weighed, four_le, distinct_two}

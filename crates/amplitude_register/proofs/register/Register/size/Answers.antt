@@ -1,6 +1,6 @@
 use Rattle.std.proofs.lemmas.Int.{to_z-of_z}
 use mir.Syntax.{w128}
-use Rattle.std.proofs.Common.{rules, FitsSigned, ◌≡◌, ℤ, nat_abs, subst, sym, ap, ◌∙◌}
+use Rattle.std.proofs.Common.{rules, FitsSigned, nat_abs, subst, sym, ap}
 use Rattle.amplitude_register.specs.States.{RegisterState}
 use Rattle.amplitude_register.specs.Held.{amplitudes_of}
 use Rattle.amplitude_register.proofs.Fields.{block_rows, kept_size}
