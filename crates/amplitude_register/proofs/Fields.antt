@@ -386,3 +386,16 @@ pub unlisted : (xs : List ℕ) (q : ℕ) → ((j : ℕ) → j < length xs → ge
 unfolding is_listed
 unlisted [] q h = refl
 unlisted (x ∷ xs) q h = ap (λ b. b || is_listed xs q) (eq_false x q (h 0 (omega arith))) ∙ unlisted xs q (λ j l. h (suc j) (omega arith))
+
+-- the coordinates of a prepared value
+pub kept_range : (o : RegisterState) (l : ℕ) (v : Amplitudes) (s : Stage) (b : Block) (row : ℕ) → state l v (next_of s (amplitudes_of b)) ≡ o → IsPrepared o.next → IsStage s b → CoordinatesBelow (2 ^ 61) (at (list_of b) row)
+kept_range o l v s b row e h k = by s (subst (λ (t : RegisterState). IsPrepared t.next) (sym e) h) k
+  where
+    further : (z : ℤ) → z <ℤ pos (2 ^ 60) → z <ℤ pos (2 ^ 122)
+    further z h = omega (arith, order)
+
+    by : (s : Stage) → IsPrepared (next_of s (amplitudes_of b)) → IsStage s b → CoordinatesBelow (2 ^ 61) (at (list_of b) row)
+    by Prepared h k = let m = k.1 in within_sum (list_of b) (further (total_weight (list_of b)).x m.small) row
+    by Open h k = absurd h
+    by Weighed h k = absurd h
+    by Empty h k = absurd h

@@ -8,3 +8,5 @@ pub mod Sums
 pub mod Steps
 pub mod Fields
 pub mod RowPairs
+pub mod ChangedRows
+pub mod PreparedRows

@@ -10,5 +10,7 @@ mod normal;
 mod register;
 mod rows;
 mod scalars;
+#[cfg(test)]
+mod tests;
 
 pub use register::{Reduce, Register, TooLarge};

@@ -1,6 +1,6 @@
 //! A register: its value, and room for the next one.
 ghost use Rattle.std.specs.Prelude.{◌≡◌, ◌≢◌, pos, nat_abs, ◌<◌, ◌≤◌, ◌^◌, ◌<ℤ◌, false, unsigned_abs, length, IfOk, MatchResult, MatchOption, slice_index_or};
-ghost use Rattle.state_model.specs.Coefficient.{scaled};
+ghost use Rattle.state_model.specs.Coefficient.{negated, scaled};
 ghost use Rattle.state_model.specs.Row.{is_listed};
 ghost use Rattle.state_model.specs.CoefficientList.{at, total_weight, IsNonzero, HasDeltaDivisors};
 ghost use Rattle.state_model.specs.StateVector.{IsSize};
@@ -13,6 +13,7 @@ ghost use Rattle.amplitude_register.specs.declared.block.Stage.TheVariants.{Weig
 ghost use Rattle.amplitude_register.specs.States.{RegisterState, empty, draft, prepared, no_qubit, basis_state, pair_state, zeros, IsDraft, IsPrepared, IsPresent, IsNextKept, next_value, prepared_qubits, with_list, with_row, IsKept, IsGateStep, IsSealed, IsRefused};
 
 use crate::block::{Block, Stage};
+use crate::scalars::opposite;
 use crate::{fronts, normal, rows};
 use omega_ring::{Omega, Weight};
 use std::alloc::{AllocError, Global};
@@ -284,6 +285,27 @@ impl Register {
             Stage::Weighed => self.next.weight,
             _ => normal::front_weight(&self.next.entries, self.next.rows),
         }
+    }
+
+    /// Two rows of the prepared value change places.
+    pub fn swap_rows(&mut self, one: u16, two: u16)
+        requires prepared { IsPrepared self.old.next }
+        requires one { one < length (next_value self.old.next).list }
+        requires two { two < length (next_value self.old.next).list }
+        ensures { self.new ≡ record self.old { next = prepared (with_row (with_row (next_value self.old.next) one (at (next_value self.old.next).list two)) two (at (next_value self.old.next).list one)) } }
+    {
+        let first = self.next.entries[one as usize];
+        self.next.entries[one as usize] = self.next.entries[two as usize];
+        self.next.entries[two as usize] = first;
+    }
+
+    /// A row of the prepared value is negated.
+    pub fn negate_row(&mut self, row: u16)
+        requires prepared { IsPrepared self.old.next }
+        requires row { row < length (next_value self.old.next).list }
+        ensures { self.new ≡ record self.old { next = prepared (with_row (next_value self.old.next) row (negated (at (next_value self.old.next).list row))) } }
+    {
+        self.next.entries[row as usize] = opposite(self.next.entries[row as usize]);
     }
 
     /// The prepared value becomes the register's, and none is prepared.

@@ -1,6 +1,6 @@
 //! What is done to one coefficient: quotients by 1 - w and 1 + w, and products with units.
 ghost use Rattle.std.specs.Prelude.{◌≡◌, ◌^◌, ◌+ℤ◌, IsTrue, ◌↔◌};
-ghost use Rattle.state_model.specs.Coefficient.{◌⊗◌};
+ghost use Rattle.state_model.specs.Coefficient.{◌⊗◌, negated};
 ghost use Rattle.state_model.specs.Divisors.{Divides, delta, unit_up, unit_down};
 ghost use Rattle.state_model.specs.Quotients.{IsEven};
 ghost use Rattle.omega_ring.specs.Views.{omega_value};
@@ -99,4 +99,17 @@ pub(crate) fn is_even(m: i64) -> bool
     ensures { IsTrue result ↔ IsEven m }
 {
     m % 2 == 0
+}
+
+/// The value with the other sign.
+pub(crate) fn opposite(z: Omega) -> Omega
+    requires { CoordinatesBelow (2 ^ 61) (omega_value z) }
+    ensures { omega_value result ≡ negated (omega_value z) }
+{
+    Omega {
+        a: -z.a,
+        b: -z.b,
+        c: -z.c,
+        d: -z.d,
+    }
 }

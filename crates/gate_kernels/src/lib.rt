@@ -3,6 +3,8 @@
 #![tactic(auto)]
 
 mod kernels;
+#[cfg(test)]
+mod tests;
 
 pub use kernels::prepare_one;
 pub use state_model::{Gate, Two};

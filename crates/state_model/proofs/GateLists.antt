@@ -2,20 +2,19 @@
 use Prim.Native.Nat.{zero, suc}
 use Rattle.std.proofs.Common.{◌≡◌, ◌≢◌, ℕ, ◌<◌, ◌^◌, Bool, true, false, ℤ, pos, neg_ℤ, List, [], ◌∷◌, length, refl, sym, ap, subst, ◌∙◌, arith}
 use borrow.Author.Differences.{ints}
-use Rattle.state_model.specs.Coefficient.{Coefficient, coefficient, zero_coefficient, one_coefficient, ◌⊕◌, ◌⊖◌, ◌⊗◌, negated, times_root, root, Weight, weight, weight_sum, scaled}
-use Rattle.state_model.specs.Divisors.{Divides, IsDeltaPower, weight_product}
+use Rattle.state_model.specs.Coefficient.{Coefficient, zero_coefficient, one_coefficient, ◌⊕◌, ◌⊖◌, ◌⊗◌, times_root, root, Weight, weight, weight_sum, scaled}
+use Rattle.state_model.specs.Divisors.{Divides, weight_product}
 use Rattle.state_model.specs.CoefficientList.{at, DividesAll, IsReduced, IsNonzero, HasDeltaDivisors, total_weight}
 use Rattle.state_model.specs.Row.{is_set, with_bit}
-use Rattle.state_model.specs.Gate.{Matrix, imaginary, matrix, entry, gate}
+use Rattle.state_model.specs.Gate.{Matrix, matrix, entry, gate}
 use Rattle.state_model.specs.Undo.{product, adjoint, times_one, scale_of}
 use Rattle.state_model.specs.declared.Gate.{Gate}
 use Rattle.state_model.specs.declared.Gate.TheVariants.{I, X, Y, Z, T, H, K, RotX, RotY, RotZ}
 use Rattle.state_model.specs.Amplitudes.{IsGateList}
-use Rattle.state_model.proofs.Ring.{same_coordinates, ⊕_comm, ⊗_comm, ⊗_assoc, ⊗-⊕}
+use Rattle.state_model.proofs.Ring.{same_coordinates, ⊕_comm, ⊗_comm}
 use Rattle.state_model.proofs.Domain.{zero_coefficient-⊗, ⊗-zero_coefficient}
-use Rattle.state_model.proofs.Draws.{same_weight}
 use Rattle.state_model.proofs.Expressions.{Quad, Pair, quad, pair, mul_quad, mul_pair, add_quad, sub_quad, equal_quads, equal_pairs, weight_quad, coordinates}
-use Rattle.state_model.proofs.Polynomial.{Term, var, number, plus, times, minus}
+use Rattle.state_model.proofs.Polynomial.{var, number, plus, times, minus}
 use Rattle.state_model.proofs.Norms.{weight-⊗}
 use Rattle.state_model.proofs.Euclid.{one-⊗, divides_both, divides_trans}
 use Rattle.state_model.proofs.Division.{whole_coefficient}

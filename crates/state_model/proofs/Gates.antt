@@ -1,7 +1,7 @@
 -- A gate whose determinant is not zero leaves a row, and inside a group it makes a part of a part.
 use Rattle.std.proofs.Common.{◌≡◌, ◌≢◌, ℕ, ◌==◌, Bool, true, false, List, refl, sym, ap, subst, ◌∙◌, arith}
 use borrow.Author.Differences.{ints}
-use Rattle.state_model.specs.Coefficient.{Coefficient, coefficient, zero_coefficient, ◌⊕◌, ◌⊗◌, negated}
+use Rattle.state_model.specs.Coefficient.{Coefficient, zero_coefficient, ◌⊕◌, ◌⊗◌, negated}
 use Rattle.state_model.specs.Row.{is_set, with_bit, is_listed}
 use Rattle.state_model.specs.StateVector.{Vector, IsOver, IsPart}
 use Rattle.state_model.specs.Gate.{Matrix, entry, gate}

@@ -2,7 +2,7 @@
 use Prim.Native.Nat.{zero, suc}
 use Rattle.std.proofs.Common.{◌≡◌, inl, inr, ℕ, ◌+◌, ◌-◌, ◌*◌, ◌^◌, ◌<◌, ◌≤◌, ◌==◌, ℤ, pos, negsuc, ◌-ℤ◌, ◌*ℤ◌, ◌<ℤ◌, neg_ℤ, nat_abs, Bool, true, false, cond, ◌&&◌, ◌||◌, List, [], ◌∷◌, map, filter, refl, sym, ap, subst, ◌∙◌, arith, mul-le-mul}
 use borrow.Author.Differences.{up, down, ints, same_in, sum_is_lem, product_is, neg_is}
-use Rattle.state_model.specs.Coefficient.{coefficient, zero_coefficient, squares, Weight, weight, no_weight, weight_sum, weight_difference, scaled, is_positive, is_less}
+use Rattle.state_model.specs.Coefficient.{zero_coefficient, squares, Weight, weight, no_weight, weight_sum, scaled, is_positive, is_less}
 use Rattle.state_model.specs.Row.{is_set, with_bit, is_listed, within, rows_of}
 use Rattle.state_model.specs.StateVector.{Vector, IsOver}
 use Rattle.state_model.specs.Measurement.{weight_of, whole_weight, one_weight, draw, keep}

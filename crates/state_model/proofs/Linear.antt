@@ -3,7 +3,7 @@ use Rattle.std.proofs.Common.{◌≡◌, ℕ, Bool, true, false, List, cond, ref
 use borrow.Author.Differences.{same_in, sum_is_lem, neg_is}
 use Rattle.state_model.proofs.Integers.{expand}
 use mathlib.Core.Path.{fun_ext}
-use Rattle.state_model.specs.Coefficient.{Coefficient, coefficient, zero_coefficient, ◌⊕◌, ◌⊗◌, negated}
+use Rattle.state_model.specs.Coefficient.{Coefficient, zero_coefficient, ◌⊕◌, ◌⊗◌, negated}
 use Rattle.state_model.specs.Row.{is_set, with_bit, turned, is_listed, within, AgreeOutside}
 use Rattle.state_model.specs.StateVector.{Vector, IsPart}
 use Rattle.state_model.specs.Gate.{Matrix, entry, gate, controlled_not, controlled_phase, two_gate}

@@ -1,7 +1,7 @@
 -- What each operation leaves of a vector: a row, and rows with bits of live numbers alone.
 use Rattle.std.proofs.Common.{◌≡◌, ◌≢◌, ℕ, ◌==◌, Bool, true, false, not, cond, ◌&&◌, ◌||◌, List, [], ◌∷◌, ◌++◌, refl, sym, ap, ◌∙◌, arith}
 use borrow.Author.Differences.{ints}
-use Rattle.state_model.specs.Coefficient.{Coefficient, coefficient, zero_coefficient, negated}
+use Rattle.state_model.specs.Coefficient.{Coefficient, zero_coefficient, negated}
 use Rattle.state_model.specs.Row.{is_set, with_bit, turned, is_listed}
 use Rattle.state_model.specs.StateVector.{Vector, IsOver}
 use Rattle.state_model.specs.Gate.{two_gate, controlled_not, controlled_phase}

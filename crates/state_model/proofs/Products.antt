@@ -1,6 +1,6 @@
 -- A vector that has a part on each of disjoint groups is, where these are all its qubits, the product of the parts.
 use Rattle.std.proofs.Common.{◌≡◌, ◌≢◌, ℕ, ◌==◌, Bool, true, false, cond, ◌&&◌, ◌||◌, List, [], ◌∷◌, refl, sym, ap, subst, ◌∙◌, arith}
-use Rattle.state_model.specs.Coefficient.{coefficient, zero_coefficient, one_coefficient, ◌⊗◌}
+use Rattle.state_model.specs.Coefficient.{zero_coefficient, one_coefficient, ◌⊗◌}
 use Rattle.state_model.specs.Row.{is_set, with_bit, is_listed, within, AgreeOutside}
 use Rattle.state_model.specs.StateVector.{Vector, IsOver, IsSameState}
 use Rattle.state_model.specs.Registers.{product_of, product_over, union_of, AreParts, AreDisjoint}

@@ -1,16 +1,15 @@
 -- Gates on a register's list, row by row, make the list of the gate's vector.
 use Prim.Native.Nat.{zero, suc}
-use Rattle.std.proofs.Common.{◌≡◌, ◌≢◌, ℕ, ◌+◌, ◌*◌, ◌<◌, ◌==◌, Bool, true, false, not, cond, ◌||◌, List, [], ◌∷◌, length, slice_index_or, refl, sym, ap, ◌∙◌, arith}
-use Rattle.state_model.specs.Coefficient.{Coefficient, zero_coefficient, ◌⊗◌, negated}
+use Rattle.std.proofs.Common.{◌≡◌, ◌≢◌, ℕ, ◌<◌, ◌==◌, Bool, true, false, not, cond, List, [], ◌∷◌, length, slice_index_or, refl, sym, ap, ◌∙◌, arith}
+use Rattle.state_model.specs.Coefficient.{Coefficient, zero_coefficient, negated}
 use Rattle.state_model.specs.CoefficientList.{at}
 use Rattle.state_model.specs.Row.{is_set, with_bit, turned, is_listed, within}
-use Rattle.state_model.specs.StateVector.{Vector}
 use Rattle.state_model.specs.Gate.{Matrix, gate, controlled_not, controlled_phase, two_gate}
 use Rattle.state_model.specs.declared.Two.{Two}
 use Rattle.state_model.specs.declared.Two.TheVariants.{Cnot, Cphase}
 use Rattle.state_model.specs.Registers.{register_row, register_vector}
 use Rattle.state_model.specs.Amplitudes.{Amplitudes, vector_of, qubit_at, AreDistinct, HasRows, IsGateList, IsTwoGateList}
-use Rattle.state_model.proofs.Booleans.{eq_true, eq_of, ne_of, or_true}
+use Rattle.state_model.proofs.Booleans.{eq_of, ne_of}
 use Rattle.state_model.proofs.RowLaws.{same_row, is_set-turned_same, is_set-turned_other, is_set-with_bit_same, is_set-with_bit_other, within-with_bit_inside}
 use Rattle.state_model.proofs.Gates.{with_bit_again, with_own_bit}
 use Rattle.state_model.proofs.Registers.{IsAt, register_bit, register_row-with_bit, register_gate, is_at_listed}

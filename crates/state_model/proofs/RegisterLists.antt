@@ -10,13 +10,13 @@ use Rattle.state_model.specs.Row.{is_set, with_bit, is_listed, within}
 use Rattle.state_model.specs.StateVector.{Vector, IsSameState, IsOver}
 use Rattle.state_model.specs.Registers.{register_row, register_vector}
 use Rattle.state_model.specs.Amplitudes.{Amplitudes, vector_of, AreDistinct, HasRows}
-use Rattle.state_model.proofs.Booleans.{eq_true, eq_of, ne_of, eq_false, or_false_left, or_false_right, clash}
+use Rattle.state_model.proofs.Booleans.{eq_of, ne_of, eq_false, or_false_left, or_false_right, clash}
 use Rattle.state_model.proofs.Domain.{⊗-domain, ⊗-zero_coefficient, zero_coefficient-⊗, no_squares}
 use Rattle.state_model.proofs.Ring.{⊗_comm, ⊗_assoc}
-use Rattle.state_model.proofs.SameStates.{stable, same_by_ratios}
+use Rattle.state_model.proofs.SameStates.{stable}
 use Rattle.state_model.proofs.Parts.{within_all, no_bit_outside}
-use Rattle.state_model.proofs.RowLaws.{same_row, is_set-within, is_set-with_bit_same, is_set-with_bit_other, zero_clear}
-use Rattle.state_model.proofs.Registers.{lowest, higher, register_blind, register_bit}
+use Rattle.state_model.proofs.RowLaws.{same_row, is_set-with_bit_same, is_set-with_bit_other, zero_clear}
+use Rattle.state_model.proofs.Registers.{lowest, higher, register_blind}
 use Rattle.state_model.proofs.RegisterSums.{vector-within}
 
 -- ---- rows of a register and of the network

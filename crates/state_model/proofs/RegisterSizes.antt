@@ -1,5 +1,5 @@
 -- Least sizes of lists are sizes of the vectors that the lists stand for.
-use Rattle.std.proofs.Common.{◌≡◌, ◌≢◌, ℕ, ◌≤◌, ◌^◌, ℤ, pos, ◌≤ℤ◌, nat_abs, List, length, refl, sym, ap, subst, ◌∙◌, arith}
+use Rattle.std.proofs.Common.{◌≡◌, ◌≢◌, ℕ, ◌≤◌, ℤ, pos, ◌≤ℤ◌, nat_abs, List, length, refl, sym, ap, subst, ◌∙◌, arith}
 use mathlib.Core.Path.{fun_ext}
 use borrow.Author.Differences.{ints}
 use Rattle.state_model.specs.Coefficient.{Coefficient, zero_coefficient, one_coefficient, ◌⊗◌}
@@ -7,7 +7,7 @@ use Rattle.state_model.specs.CoefficientList.{at, IsScaled, IsProportional, IsNo
 use Rattle.state_model.specs.Row.{within, AgreeOutside}
 use Rattle.state_model.specs.StateVector.{Vector, IsPart, IsSize, squares_over}
 use Rattle.state_model.specs.Registers.{register_vector}
-use Rattle.state_model.specs.Amplitudes.{Amplitudes, vector_of, AreDistinct, HasRows}
+use Rattle.state_model.specs.Amplitudes.{Amplitudes, vector_of, HasRows}
 use Rattle.state_model.proofs.Domain.{⊗-zero_coefficient}
 use Rattle.state_model.proofs.Ring.{⊗_comm, ⊗_assoc}
 use Rattle.state_model.proofs.SameStates.{⊗-cancel, same_symmetric}
@@ -72,15 +72,15 @@ agree_over g x y in_x in_y q out = no_bit_outside g x q in_x out ∙ sym (no_bit
 part_least : (a : Amplitudes) (n : ℕ) → HasRows a → IsLeastSize a.list (pos n) → (us : List Coefficient) → length us ≡ length a.list → IsPart (vector_of a) a.qubits (register_vector a.qubits us) → n ≤ squares_over a.qubits (register_vector a.qubits us)
 part_least a n rows h us l part = pos_below n _ (subst (λ (t : ℤ). pos n ≤ℤ t) (squares_over-register (over_same a us) (same_rows a us rows l)) (h.least us l
     (ratios_proportional a.qubits a.list us rows.distinct rows.rows (l ∙ rows.rows) (λ x y in_x in_y.
-        ap (λ r. vector_of a x ⊗ register_vector a.qubits us r) (sym in_y) ∙ part.ratios x y (agree_over a.qubits x y in_x in_y) ∙ ap (λ r. vector_of a y ⊗ register_vector a.qubits us r) in_x))
+    ap (λ r. vector_of a x ⊗ register_vector a.qubits us r) (sym in_y) ∙ part.ratios x y (agree_over a.qubits x y in_x in_y) ∙ ap (λ r. vector_of a y ⊗ register_vector a.qubits us r) in_x))
     (some_row_entry a.qubits us part.some_row)))
 
 -- the least size of a list is the size of its vector
 pub least_size : (a : Amplitudes) (n : ℕ) → HasRows a → IsNonzero a.list → IsLeastSize a.list (pos n) → IsSize (vector_of a) a.qubits n
 least_size a n rows some h = record {
   least = λ u part.
-  let e : u ≡ register_vector a.qubits (list_of a.qubits u) = fun_ext (list_of-vector a.qubits u rows.distinct part.over) in
-  subst (λ (w : Vector). n ≤ squares_over a.qubits w) (sym e) (part_least a n rows h (list_of a.qubits u) (length-list_of a.qubits u ∙ sym rows.rows) (subst (λ (w : Vector). IsPart (vector_of a) a.qubits w) e part));
+      let e : u ≡ register_vector a.qubits (list_of a.qubits u) = fun_ext (list_of-vector a.qubits u rows.distinct part.over) in
+      subst (λ (w : Vector). n ≤ squares_over a.qubits w) (sym e) (part_least a n rows h (list_of a.qubits u) (length-list_of a.qubits u ∙ sym rows.rows) (subst (λ (w : Vector). IsPart (vector_of a) a.qubits w) e part));
   vector = register_vector a.qubits h.vector;
   part = part_along a.qubits (vector_of a) (vector_of a) (register_vector a.qubits h.vector) (whole_part a.qubits (vector_of a) (entry_some_row a.qubits a.list rows.distinct rows.rows some) (vector-over a.qubits a.list)) (vector-over a.qubits h.vector) (same_symmetric _ _ (scaled_same a.qubits h.vector a.list h.scaled));
   reached = pos_is _ n (sym (squares_over-register (over_same a h.vector) (same_rows a h.vector rows h.rows)) ∙ h.reached);

@@ -1,17 +1,17 @@
 -- Sums of weights over the rows of a register: by number, in pairs that differ in one bit, and over the rows of the network.
 use Prim.Native.Nat.{zero, suc}
-use Rattle.std.proofs.Common.{◌≡◌, ℕ, ◌+◌, ◌*◌, ◌<◌, ◌^◌, ◌==◌, Bool, true, false, cond, ◌||◌, ℤ, pos, ◌+ℤ◌, ◌*ℤ◌, List, [], ◌∷◌, ◌++◌, length, map, sum_by, refl, sym, ap, ◌∙◌, arith}
+use Rattle.std.proofs.Common.{◌≡◌, ℕ, ◌+◌, ◌*◌, ◌<◌, ◌^◌, ◌==◌, Bool, true, false, cond, pos, ◌+ℤ◌, List, [], ◌∷◌, ◌++◌, length, map, sum_by, refl, sym, ap, ◌∙◌, arith}
 use borrow.Author.Differences.{ints}
 use Rattle.std.proofs.Math.Nat.{pow-succ'}
 use Rattle.std.proofs.lemmas.List.Sums.{sum_by-cons}
 use Rattle.state_model.specs.Coefficient.{Coefficient, zero_coefficient, squares, Weight, weight, no_weight, weight_sum, scaled}
 use Rattle.state_model.specs.CoefficientList.{at, total_weight}
-use Rattle.state_model.specs.Row.{is_set, with_bit, is_listed, within, rows_of}
+use Rattle.state_model.specs.Row.{with_bit, is_listed, within, rows_of}
 use Rattle.state_model.specs.StateVector.{Vector, squares_over}
 use Rattle.state_model.specs.Measurement.{weight_of}
 use Rattle.state_model.specs.Registers.{register_row, register_vector}
 use Rattle.state_model.specs.Amplitudes.{Amplitudes, vector_of, AreDistinct, HasRows}
-use Rattle.state_model.proofs.Booleans.{eq_true, eq_of, ne_of, or_false_left, or_false_right, clash}
+use Rattle.state_model.proofs.Booleans.{eq_true, ne_of, or_false_left, or_false_right}
 use Rattle.state_model.proofs.Domain.{square_sum}
 use Rattle.state_model.proofs.Draws.{same_weight}
 use Rattle.state_model.proofs.Integers.{mul_add_ℤ}

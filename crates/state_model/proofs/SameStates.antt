@@ -2,7 +2,7 @@
 use Rattle.std.proofs.Common.{◌≡◌, ◌≢◌, ℕ, ℤ, refl, sym, ap, ◌∙◌, arith}
 use lib.IntN.{ℤ_discrete}
 use borrow.Author.Differences.{ints}
-use Rattle.state_model.specs.Coefficient.{Coefficient, coefficient, zero_coefficient, ◌⊕◌, ◌⊗◌, negated}
+use Rattle.state_model.specs.Coefficient.{Coefficient, zero_coefficient, ◌⊕◌, ◌⊗◌, negated}
 use Rattle.state_model.specs.StateVector.{Vector, IsSameState}
 use Rattle.state_model.proofs.Ring.{same_coordinates, ⊗_comm, ⊗_assoc, ⊗-⊕}
 use Rattle.state_model.proofs.Domain.{⊗-domain, ⊗-zero_coefficient}

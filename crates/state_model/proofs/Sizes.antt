@@ -3,7 +3,7 @@ use Rattle.std.proofs.Common.{◌≡◌, ◌≢◌, ℕ, ◌+◌, ◌≤◌, ◌
 use mathlib.Core.Path.{fun_ext}
 use Rattle.std.proofs.lemmas.List.Sums.{sum_by-cons}
 use Rattle.state_model.proofs.Registers.{AreDistinct}
-use Rattle.state_model.specs.Coefficient.{Coefficient, coefficient, zero_coefficient, ◌⊗◌, squares}
+use Rattle.state_model.specs.Coefficient.{Coefficient, zero_coefficient, ◌⊗◌, squares}
 use Rattle.state_model.specs.Row.{is_set, with_bit, is_listed, within, AgreeOutside, rows_of}
 use Rattle.state_model.specs.StateVector.{Vector, IsPart, HasSizeAtLeast, squares_over}
 use Rattle.state_model.specs.Measurement.{keep}

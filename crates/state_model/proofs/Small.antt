@@ -2,7 +2,7 @@
 use Rattle.std.proofs.Common.{◌≡◌, ℕ, ◌+◌, ◌*◌, ◌^◌, ◌≤◌, ◌==◌, Bool, true, false, not, cond, ◌||◌, List, [], ◌∷◌, length, slice_index_or, sum_by, le_trans, refl, sym, ap, subst, ◌∙◌, arith}
 use mathlib.Core.Path.{fun_ext}
 use Rattle.std.proofs.lemmas.List.Sums.{sum_by-cons}
-use Rattle.state_model.specs.Coefficient.{coefficient, zero_coefficient, one_coefficient, ◌⊗◌, squares}
+use Rattle.state_model.specs.Coefficient.{zero_coefficient, one_coefficient, ◌⊗◌, squares}
 use Rattle.state_model.specs.Row.{is_set, with_bit, is_listed, within, AgreeOutside, rows_of}
 use Rattle.state_model.specs.StateVector.{Vector, IsPart, HasSizeAtLeast, squares_over}
 use Rattle.state_model.specs.Measurement.{paired}

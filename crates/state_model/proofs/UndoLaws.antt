@@ -1,7 +1,7 @@
 -- The laws of undoing: matrices, vectors, rows and parts.
 use Rattle.std.proofs.Common.{◌≡◌, ℕ, Bool, true, false, refl, sym, ap, ◌∙◌, arith}
 use borrow.Author.Differences.{ints}
-use Rattle.state_model.specs.Coefficient.{Coefficient, coefficient, zero_coefficient, one_coefficient, ◌⊕◌, ◌⊗◌, negated, conjugate, times_root, root}
+use Rattle.state_model.specs.Coefficient.{Coefficient, zero_coefficient, one_coefficient, ◌⊕◌, ◌⊗◌, conjugate, root}
 use Rattle.state_model.specs.Row.{is_set, with_bit}
 use Rattle.state_model.specs.StateVector.{Vector}
 use Rattle.state_model.specs.Gate.{Matrix, imaginary, matrix, entry, gate}

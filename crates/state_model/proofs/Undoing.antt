@@ -2,7 +2,7 @@
 use Prim.Native.Nat.{zero, suc}
 use Rattle.std.proofs.Common.{◌≡◌, ℕ, refl, sym, ap, ◌∙◌, arith}
 use borrow.Author.Differences.{ints, same_in, sum_is_lem, neg_is}
-use Rattle.state_model.specs.Coefficient.{Coefficient, coefficient, zero_coefficient, one_coefficient, ◌⊕◌, ◌⊗◌, negated, conjugate, times_root, root}
+use Rattle.state_model.specs.Coefficient.{Coefficient, zero_coefficient, one_coefficient, ◌⊕◌, ◌⊗◌, negated, conjugate, times_root, root}
 use Rattle.state_model.specs.Gate.{Matrix, imaginary}
 use Rattle.state_model.specs.Undo.{product, adjoint, times_one, identity_times}
 use Rattle.state_model.proofs.Integers.{expand}

@@ -1,0 +1,76 @@
+-- Rows of a prepared value that are exchanged or negated, in the fields and in what contracts see.
+use Rattle.std.proofs.Common.{◌≡◌, ℕ, ◌<◌, ◌≤◌, ◌^◌, List, length, map, take, get_or, slice_set, refl, sym, ap, subst, ◌∙◌, arith}
+use Rattle.std.proofs.lemmas.List.{length-set, length-map}
+use Rattle.state_model.specs.Coefficient.{Coefficient, negated}
+use Rattle.state_model.specs.CoefficientList.{at, total_weight}
+use Rattle.state_model.specs.Amplitudes.{Amplitudes}
+use Rattle.omega_ring.specs.Views.{omega_value, weight_value}
+use Rattle.omega_ring.specs.Range.{CoordinatesBelow}
+use Rattle.omega_ring.specs.declared.coefficients.Omega.{Omega}
+use Rattle.amplitude_register.specs.States.{RegisterState, Next, prepared, IsPrepared, IsPresent, IsKept, next_value, with_row}
+use Rattle.amplitude_register.specs.Held.{IsBlock, IsStage, next_of, amplitudes_of}
+use Rattle.amplitude_register.specs.declared.block.Block.{Block}
+use Rattle.amplitude_register.specs.declared.block.Stage.{Stage}
+use Rattle.amplitude_register.specs.declared.block.Stage.TheVariants.{Empty, Open, Weighed, Prepared}
+use Rattle.amplitude_register.proofs.Entries.{zero_omega}
+use Rattle.amplitude_register.proofs.Sums.{within_sum}
+use Rattle.amplitude_register.proofs.Fields.{state, front, ready_state, ready_value, front_set, front_row, below_front, list_of}
+use Rattle.amplitude_register.proofs.ChangedRows.{negated_row, swapped_rows, negated_total, swapped_total, negated_kept, swapped_kept}
+
+pub prepared_stage : (o : RegisterState) (l : ℕ) (v : Amplitudes) (s : Stage) (a : Amplitudes) → state l v (next_of s a) ≡ o → IsPrepared o.next → s ≡ Prepared
+prepared_stage o l v s a e h = by s (subst (λ (t : RegisterState). IsPrepared t.next) (sym e) h)
+  where
+    by : (s : Stage) → IsPrepared (next_of s a) → s ≡ Prepared
+    by Prepared h = refl
+    by Open h = absurd h
+    by Weighed h = absurd h
+    by Empty h = absurd h
+
+-- a row of the next value is one of the block's list
+pub ready_row : (o : RegisterState) (l : ℕ) (v : Amplitudes) (s : Stage) (qs : List ℕ) (xs : List Omega) (n row : ℕ) → state l v (next_of s (front qs xs n)) ≡ o → IsPrepared o.next → row < length (next_value o.next).list → row < length (map omega_value (take n xs))
+ready_row o l v s qs xs n row e p h = subst (λ (a : Amplitudes). row < length a.list) (ready_value o l v s (front qs xs n) e p) h
+
+-- ---- lists
+negated_front : (xs : List Omega) (n row : ℕ) (z : Omega) → row < length (map omega_value (take n xs)) → omega_value z ≡ negated (omega_value (get_or xs row zero_omega)) → map omega_value (take n (slice_set xs row z)) ≡ negated_row (map omega_value (take n xs)) row
+negated_front xs n row z h e = front_set xs n row z (below_front xs n row h) ∙ ap (slice_set (map omega_value (take n xs)) row) (e ∙ ap negated (sym (front_row xs n row h)))
+
+swapped_front : (xs : List Omega) (n i j : ℕ) (y z : Omega) → i < length (map omega_value (take n xs)) → j < length (map omega_value (take n xs)) → y ≡ get_or xs j zero_omega → z ≡ get_or xs i zero_omega
+    → map omega_value (take n (slice_set (slice_set xs i y) j z)) ≡ swapped_rows (map omega_value (take n xs)) i j
+swapped_front xs n i j y z h k e f =
+    front_set (slice_set xs i y) n j z (below_front xs n j k)
+    ∙ ap (λ (t : List Coefficient). slice_set t j (omega_value z)) (front_set xs n i y (below_front xs n i h) ∙ ap (slice_set (map omega_value (take n xs)) i) (ap omega_value e ∙ sym (front_row xs n j k)))
+    ∙ ap (slice_set (slice_set (map omega_value (take n xs)) i (at (map omega_value (take n xs)) j)) j) (ap omega_value f ∙ sym (front_row xs n i h))
+
+-- ---- what contracts see
+pub negated_is : (o : RegisterState) (l : ℕ) (v : Amplitudes) (s : Stage) (qs : List ℕ) (xs : List Omega) (n row : ℕ) (z : Omega) → state l v (next_of s (front qs xs n)) ≡ o → IsPrepared o.next → row < length (next_value o.next).list → omega_value z ≡ negated (omega_value (get_or xs row zero_omega))
+    → state l v (next_of s (front qs (slice_set xs row z) n)) ≡ state o.limit o.value (prepared (with_row (next_value o.next) row (negated (at (next_value o.next).list row))))
+negated_is o l v s qs xs n row z e p h f =
+    let P : RegisterState → Type 0 = λ t. state l v (prepared (front qs (slice_set xs row z) n)) ≡ state t.limit t.value (prepared (with_row (next_value t.next) row (negated (at (next_value t.next).list row)))) in
+    ap (λ (r : Stage). state l v (next_of r (front qs (slice_set xs row z) n))) (prepared_stage o l v s (front qs xs n) e p)
+    ∙ subst P (ready_state o l v s (front qs xs n) e p) (ap (λ (t : List Coefficient). state l v (prepared record { qubits = qs; list = t })) (negated_front xs n row z (ready_row o l v s qs xs n row e p h) f))
+
+pub swapped_is : (o : RegisterState) (l : ℕ) (v : Amplitudes) (s : Stage) (qs : List ℕ) (xs : List Omega) (n i j : ℕ) (y z : Omega) → state l v (next_of s (front qs xs n)) ≡ o → IsPrepared o.next → i < length (next_value o.next).list → j < length (next_value o.next).list → y ≡ get_or xs j zero_omega → z ≡ get_or xs i zero_omega
+    → state l v (next_of s (front qs (slice_set (slice_set xs i y) j z) n)) ≡ state o.limit o.value (prepared (with_row (with_row (next_value o.next) i (at (next_value o.next).list j)) j (at (next_value o.next).list i)))
+swapped_is o l v s qs xs n i j y z e p h k f g =
+    let P : RegisterState → Type 0 = λ t. state l v (prepared (front qs (slice_set (slice_set xs i y) j z) n)) ≡ state t.limit t.value (prepared (with_row (with_row (next_value t.next) i (at (next_value t.next).list j)) j (at (next_value t.next).list i))) in
+    ap (λ (r : Stage). state l v (next_of r (front qs (slice_set (slice_set xs i y) j z) n))) (prepared_stage o l v s (front qs xs n) e p)
+    ∙ subst P (ready_state o l v s (front qs xs n) e p) (ap (λ (t : List Coefficient). state l v (prepared record { qubits = qs; list = t })) (swapped_front xs n i j y z (ready_row o l v s qs xs n i e p h) (ready_row o l v s qs xs n j e p k) f g))
+
+-- ---- what the stage keeps
+pub changed_stage : (s : Stage) (b c : Block) → s ≡ Prepared → c.weight ≡ b.weight → total_weight (list_of c) ≡ total_weight (list_of b) → (IsKept (amplitudes_of b) → IsKept (amplitudes_of c)) → IsStage s b → IsStage s c
+changed_stage Prepared b c e w t kept k = (ap weight_value w ∙ k.0 ∙ sym t, kept (k.1))
+changed_stage Empty b c e w t kept k = tt
+changed_stage Open b c e w t kept k = tt
+changed_stage Weighed b c e w t kept k = ap weight_value w ∙ k ∙ sym t
+
+pub negated_stage : (s : Stage) (b c : Block) (row : ℕ) (z : Omega) → s ≡ Prepared → c.weight ≡ b.weight → c.rows ≡ b.rows → c.entries.items ≡ slice_set b.entries.items row z → row < length (list_of b) → omega_value z ≡ negated (omega_value (get_or b.entries.items row zero_omega)) → IsStage s b → IsStage s c
+negated_stage s b c row z e w r x h f k =
+    let q : list_of c ≡ negated_row (list_of b) row = ap (λ (n : ℕ). map omega_value (take n c.entries.items)) r ∙ ap (λ (t : List Omega). map omega_value (take b.rows t)) x ∙ negated_front b.entries.items b.rows row z h f in
+    changed_stage s b c e w (ap total_weight q ∙ negated_total (list_of b) row h)
+    (λ m. subst (λ (t : List Coefficient). IsKept record { qubits = take c.count c.qubits; list = t }) (sym q) (negated_kept (take b.count b.qubits) (take c.count c.qubits) (list_of b) row h m)) k
+
+pub swapped_stage : (s : Stage) (b c : Block) (i j : ℕ) (y z : Omega) → s ≡ Prepared → c.weight ≡ b.weight → c.rows ≡ b.rows → c.entries.items ≡ slice_set (slice_set b.entries.items i y) j z → i < length (list_of b) → j < length (list_of b) → y ≡ get_or b.entries.items j zero_omega → z ≡ get_or b.entries.items i zero_omega → IsStage s b → IsStage s c
+swapped_stage s b c i j y z e w r x h l f g k =
+    let q : list_of c ≡ swapped_rows (list_of b) i j = ap (λ (n : ℕ). map omega_value (take n c.entries.items)) r ∙ ap (λ (t : List Omega). map omega_value (take b.rows t)) x ∙ swapped_front b.entries.items b.rows i j y z h l f g in
+    changed_stage s b c e w (ap total_weight q ∙ swapped_total (list_of b) i j h l)
+    (λ m. subst (λ (t : List Coefficient). IsKept record { qubits = take c.count c.qubits; list = t }) (sym q) (swapped_kept (take b.count b.qubits) (take c.count c.qubits) (list_of b) i j h l m)) k

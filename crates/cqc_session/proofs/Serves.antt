@@ -1,0 +1,395 @@
+-- A session over a core, call after call.
+use Rattle.std.proofs.Common.{◌≡◌, ℕ, ◌+◌, ◌<◌, List, [], ◌∷◌, ◌++◌, length, Option, Some, None, Result, Ok, Err, Bool, false, refl, sym, ap, ◌∙◌, arith, subst, inl, inr, length-append}
+use Rattle.std.specs.Prelude.{MatchResult}
+use Rattle.std.proofs.lemmas.List.{append-nil, append_assoc, map-append}
+use Rattle.cqc_model.specs.declared.Command.{Command}
+use Rattle.network_model.specs.declared.Call.{Call}
+use Rattle.network_model.specs.declared.Entry.{Entry}
+use Rattle.network_model.specs.declared.CoreReply.{CoreReply}
+use Rattle.network_model.specs.declared.JournalFull.{JournalFull}
+use Rattle.cqc_model.specs.declared.Fault.TheVariants as fault
+use Rattle.cqc_model.specs.declared.Reply.TheVariants as reply
+use Rattle.session_model.specs.declared.Ending.{Ending}
+use Rattle.session_model.specs.declared.Ending.TheVariants.{Clean, Cut, ReadFault, WriteFault, Full, Spent}
+use Rattle.cqc_model.specs.Wire.{spell}
+use Rattle.session_model.specs.Walk.{spell_core}
+use Rattle.cqc_model.specs.Plan.{Cutting, messages, rest, begins_whole}
+use Rattle.session_model.specs.Walk.{Connection, Said, Work, between, working, call_of, then_said, walk, walk_from, Leads}
+use Rattle.session_model.specs.Speaks.{Setting, Speaks, EndsAs, CutAt, ProperPrefix, Prefix, due_list, calls_of, replies_of, but_last}
+use Rattle.cqc_model.proofs.Cuts.{short_part, cut_part}
+use Rattle.session_model.proofs.Leading.{leads_nowhere, leads_on, said_so_far, left_so_far, leads_step, work_after}
+use Rattle.qron_link.specs.Outside.{WasRead, WasWritten}
+use Rattle.qron_link.proofs.Known.{read_none, written_none, written_on}
+use Rattle.cqc_session.specs.State.{State, Waits}
+use Rattle.cqc_session.specs.Session.{Spoke, Paused, Halted, PartAs, PartSaid, Resumes, GoesOn, AnswerEnds}
+use Rattle.cqc_session.specs.Serving.{Added, WasFull, Serving, Served}
+use Rattle.cqc_session.proofs.Fills.{took_on}
+
+-- Lists of entries.
+but_last_push : (es : List Entry) (e : Entry) → but_last (es ++ e ∷ []) ≡ es
+but_last_push [] e = refl
+but_last_push (f ∷ []) e = refl
+but_last_push (f ∷ g ∷ es) e = ap (λ (x : List Entry). f ∷ x) (but_last_push (g ∷ es) e)
+
+calls_push : (es : List Entry) (e : Entry) → calls_of (es ++ e ∷ []) ≡ calls_of es ++ e.call ∷ []
+calls_push es e = map-append (λ (x : Entry). x.call) es (e ∷ [])
+
+replies_push : (es : List Entry) (e : Entry) → replies_of (es ++ e ∷ []) ≡ replies_of es ++ e.reply ∷ []
+replies_push es e = map-append (λ (x : Entry). x.reply) es (e ∷ [])
+
+-- One run after another that asks nothing, and one that asks one call.
+leads_more : (p : Connection) (u v w : Work) (a b : List ℕ) (c : List Call) (r : List CoreReply) (x y : List ℕ)
+    → Leads p u a c r x v → Leads p v b [] [] y w → Leads p u (a ++ b) c r (x ++ y) w
+leads_more p u v w a b c r x y f g =
+    subst (λ (k : List Call). Leads p u (a ++ b) k r (x ++ y) w) (append-nil c)
+    (subst (λ (k : List CoreReply). Leads p u (a ++ b) (c ++ []) k (x ++ y) w) (append-nil r) (leads_on p u v w a b c [] r [] x y f g))
+
+leads_asked : (p : Connection) (u v w : Work) (a : List ℕ) (c d : List Call) (r s : List CoreReply) (x y : List ℕ)
+    → Leads p u a c r x v → Leads p v [] d s y w → Leads p u a (c ++ d) (r ++ s) (x ++ y) w
+leads_asked p u v w a c d r s x y f g =
+    subst (λ (k : List ℕ). Leads p u k (c ++ d) (r ++ s) (x ++ y) w) (append-nil a) (leads_on p u v w a [] c d r s x y f g)
+
+-- what was said in all, up to a work
+said_at : (p : Connection) (w : Work) (b : List ℕ) (c : List Call) (r : List CoreReply) (out later : List ℕ)
+    → Leads p between b c r out w → walk p (messages (b ++ later)) r ≡ then_said c out (walk_from p w (messages later) [])
+said_at p w b c r out later f = ap (walk p (messages (b ++ later))) (sym (append-nil r)) ∙ f.says later []
+
+-- nothing has come yet
+pub begins : (connection : Connection) (cap now : ℕ) (left held : Option (List ℕ)) (old : List Entry) (w : Work) → w ≡ between → now ≡ cap
+    → Serving connection cap left left held held now old old w
+begins connection cap now left held old w e n = record {
+  taken = [];
+  given = [];
+  entries = [];
+  took = record { read = read_none left left refl; paid = omega arith };
+  gave = written_none held held refl;
+  added = sym (append-nil old);
+  leads = subst (λ (x : Work). Leads connection between [] [] [] [] x) (sym e) (leads_nowhere connection between);
+  before = [];
+  earlier = ([], refl);
+  last = λ h. absurd (omega arith);
+}
+
+-- a poll
+pub polled : (connection : Connection) (cap : ℕ) (left mid rest held said wrote : Option (List ℕ)) (before now : ℕ) (old new : List Entry) (v w : Work)
+    → Serving connection cap left mid held said before old new v → Spoke connection v mid rest said wrote before now w
+    → Serving connection cap left rest held wrote now old new w
+polled connection cap left mid rest held said wrote before now old new v w s t = record {
+  taken = s.taken ++ t.taken;
+  given = s.given ++ t.given;
+  entries = s.entries;
+  took = took_on _ _ _ _ _ _ _ _ s.took t.took;
+  gave = written_on _ _ _ _ _ s.gave t.gave;
+  added = s.added;
+  leads = leads_more connection between v w _ _ _ _ _ _ s.leads t.leads;
+  before = s.before;
+  earlier = (s.earlier.0 ++ t.given, sym (append_assoc s.before s.earlier.0 t.given) ∙ ap (λ x. x ++ t.given) s.earlier.1);
+  last = λ h later.
+      ap (λ (b : List ℕ). (walk connection (messages b) (replies_of (but_last s.entries))).text) (append_assoc s.taken t.taken later)
+      ∙ s.last h (t.taken ++ later);
+}
+
+-- the text up to a call that is due
+due_text : (connection : Connection) (call : Call) (others : List Command) (notify : Bool) (w : Work) (b : List ℕ) (c : List Call) (r : List CoreReply) (out later : List ℕ)
+    → Leads connection between b c r out w → w ≡ working call.app (call.command ∷ others) notify
+    → walk connection (messages (b ++ later)) r ≡ record { asked = c ++ call_of connection call.app call.command ∷ []; text = out ++ []; due = Some (call_of connection call.app call.command) }
+due_text connection call others notify w b c r out later f e =
+    said_at connection w b c r out later f ∙ ap (λ (x : Work). then_said c out (walk_from connection x (messages later) [])) e
+
+-- a reply
+pub replied : (connection : Connection) (cap : ℕ) (left rest held said wrote : Option (List ℕ)) (now : ℕ) (old mid new : List Entry) (v w : Work) (call : Call) (r : CoreReply)
+    (others : List Command) (notify : Bool)
+    → Serving connection cap left rest held said now old mid v → v ≡ working call.app (call.command ∷ others) notify
+    → Added call r mid new → Resumes connection v call said wrote r w → Serving connection cap left rest held wrote now old new w
+replied connection cap left rest held said wrote now old mid new v w call r others notify s waits add t =
+    let e : Entry = record { call = call; word = add.word; reply = r } in
+    record {
+      taken = s.taken;
+      given = s.given ++ spell_core call.app r;
+      entries = s.entries ++ e ∷ [];
+      took = s.took;
+      gave = written_on _ _ _ _ _ s.gave t.gave;
+      added = add.is ∙ ap (λ (x : List Entry). x ++ e ∷ []) s.added ∙ append_assoc old s.entries (e ∷ []);
+      leads =
+          subst (λ (k : List Call). Leads connection between s.taken k (replies_of (s.entries ++ e ∷ [])) (s.given ++ spell_core call.app r) w) (sym (calls_push s.entries e))
+          (subst (λ (k : List CoreReply). Leads connection between s.taken (calls_of s.entries ++ call ∷ []) k (s.given ++ spell_core call.app r) w) (sym (replies_push s.entries e))
+          (leads_asked connection between v w _ _ _ _ _ _ _ s.leads t.leads));
+      before = s.given;
+      earlier = (spell_core call.app r, refl);
+      last = λ h later.
+          ap (λ (es : List Entry). (walk connection (messages (s.taken ++ later)) (replies_of es)).text) (but_last_push s.entries e)
+          ∙ ap (λ (x : Said). x.text) (due_text connection call others notify v s.taken (calls_of s.entries) (replies_of s.entries) s.given later s.leads waits)
+          ∙ append-nil s.given;
+    }
+
+-- an ending, from what was said
+speaks_by : (s : Setting) (b out : List ℕ) (es : List Entry) (said : Said) (ending : Ending) → walk s.connection (messages b) (replies_of es) ≡ said
+    → said.asked ≡ calls_of es ++ due_list said.due → EndsAs s b es said out ending → Speaks s b es out ending
+speaks_by s b out es said ending is asked ends = record {
+  asked = subst (λ (w : Said). w.asked ≡ calls_of es ++ due_list w.due) (sym is) asked;
+  ends = subst (λ (w : Said). EndsAs s b es w out ending) (sym is) ends;
+}
+
+paused_speaks : (connection : Connection) (cap : ℕ) (rest_left : Option (List ℕ)) (es : List Entry) (seen capacity : ℕ) (b part out : List ℕ) (now : ℕ) (ending : Ending)
+    → Leads connection between b (calls_of es) (replies_of es) out between → begins_whole part ≡ false → now + length (b ++ part) ≡ cap
+    → PartAs cap rest_left now part ending
+    → Speaks (record { connection = connection; cap = cap; left = rest_left; entries = seen; capacity = capacity }) (b ++ part) es out ending
+paused_speaks connection cap rest_left es seen capacity b part out now ending f none paid why =
+    by_ending ending why
+  where
+    said : walk connection (messages (b ++ part)) (replies_of es) ≡ record { asked = calls_of es; text = out; due = None }
+    said = said_so_far connection b part (calls_of es) (replies_of es) out f none
+
+    rests : rest (b ++ part) ≡ part
+    rests = left_so_far connection b part (calls_of es) (replies_of es) out f none
+
+    asked : calls_of es ≡ calls_of es ++ []
+    asked = sym (append-nil (calls_of es))
+
+    by_ending : (e : Ending) → PartAs cap rest_left now part e
+        → Speaks (record { connection = connection; cap = cap; left = rest_left; entries = seen; capacity = capacity }) (b ++ part) es out e
+    by_ending Clean (empty, end) = speaks_by _ (b ++ part) out es _ Clean said asked (refl, rests ∙ empty, end, refl)
+    by_ending (Cut have need) (some, end, at) =
+        speaks_by _ (b ++ part) out es _ (Cut have need) said asked
+        (refl, subst (λ (x : List ℕ). 0 < length x) (sym rests) some, end, refl, subst (λ (x : List ℕ). CutAt x have need) (sym rests) at)
+    by_ending ReadFault why = speaks_by _ (b ++ part) out es _ ReadFault said asked (refl, refl)
+    by_ending (Spent bytes) (spent, is) = speaks_by _ (b ++ part) out es _ (Spent bytes) said asked (refl, omega arith, is, refl)
+    by_ending WriteFault never = absurd never
+    by_ending (Full entries) never = absurd never
+
+-- what was said up to any work, and nothing after it
+asked_by : (connection : Connection) (w : Work) (c : List Call) → (walk_from connection w [] []).asked ≡ due_list (walk_from connection w [] []).due
+asked_by connection between c = refl
+asked_by connection (working app [] notify) c = refl
+asked_by connection (working app (x ∷ xs) notify) c = refl
+
+-- a reply that could not be written whole
+broken_speaks : (connection : Connection) (cap : ℕ) (rest_left : Option (List ℕ)) (es : List Entry) (seen capacity : ℕ) (b whole out : List ℕ) (w : Work) (before : List ℕ)
+    → Leads connection between b (calls_of es) (replies_of es) whole w → ProperPrefix out whole
+    → Prefix before out → (0 < length es → (walk connection (messages b) (replies_of (but_last es))).text ≡ before)
+    → Speaks (record { connection = connection; cap = cap; left = rest_left; entries = seen; capacity = capacity }) b es out WriteFault
+broken_speaks connection cap rest_left es seen capacity b whole out w before f short earlier last =
+    let after = walk_from connection w [] [] in
+    let said : walk connection (messages b) (replies_of es) ≡ then_said (calls_of es) whole after =
+    ap (λ (x : List ℕ). walk connection (messages x) (replies_of es)) (sym (append-nil b))
+    ∙ said_at connection w b (calls_of es) (replies_of es) whole [] f
+    ∙ ap (λ (k : Cutting). then_said (calls_of es) whole (walk_from connection w k.messages [])) (cut_part [] (short_part [] (omega arith))) in
+    speaks_by _ b out es _ WriteFault said
+    (ap (λ (x : List Call). calls_of es ++ x) (asked_by connection w (calls_of es))) (
+      inl (
+        short.0 ++ after.text,
+        omega (arith, length-append short.0 after.text, short.1),
+        sym (append_assoc out short.0 after.text) ∙ ap (λ x. x ++ after.text) short.2,
+      ),
+      λ h. subst (λ (x : List ℕ). Prefix x out) (sym (last h)) earlier,
+    )
+
+paused_ends : (connection : Connection) (cap : ℕ) (left mid rest_left held said wrote : Option (List ℕ)) (before now : ℕ) (old new : List Entry) (seen capacity : ℕ) (v : Work) (ending : Ending)
+    → Serving connection cap left mid held said before old new v → Paused connection cap v mid rest_left said wrote before now ending
+    → Served connection cap left rest_left held wrote old new seen capacity ending
+paused_ends connection cap left mid rest_left held said wrote before now old new seen capacity v ending s t =
+    let took = took_on _ _ _ _ _ _ _ _ s.took t.took in
+    let one : s.taken ++ (t.taken ++ t.part) ≡ (s.taken ++ t.taken) ++ t.part = sym (append_assoc s.taken t.taken t.part) in
+    record {
+      read = (s.taken ++ t.taken) ++ t.part;
+      written = s.given ++ t.given;
+      entries = s.entries;
+      took = subst (λ (x : List ℕ). WasRead left x rest_left) one took.read;
+      gave = written_on _ _ _ _ _ s.gave t.gave;
+      added = s.added;
+      speaks = paused_speaks connection cap rest_left s.entries seen capacity (s.taken ++ t.taken) t.part (s.given ++ t.given) now ending
+          (leads_more connection between v between _ _ _ _ _ _ s.leads t.leads) t.none (ap (λ (x : List ℕ). now + length x) (sym one) ∙ took.paid) t.why;
+    }
+
+-- a poll that ended
+pub halts : (connection : Connection) (cap : ℕ) (left mid rest_left held said wrote : Option (List ℕ)) (before now : ℕ) (old new : List Entry) (seen capacity : ℕ) (v : Work) (ending : Ending)
+    → Serving connection cap left mid held said before old new v → Halted connection cap v mid rest_left said wrote before now ending
+    → Served connection cap left rest_left held wrote old new seen capacity ending
+halts connection cap left mid rest_left held said wrote before now old new seen capacity v Clean s t = paused_ends connection cap left mid rest_left held said wrote before now old new seen capacity v Clean s t
+halts connection cap left mid rest_left held said wrote before now old new seen capacity v (Cut have need) s t = paused_ends connection cap left mid rest_left held said wrote before now old new seen capacity v (Cut have need) s t
+halts connection cap left mid rest_left held said wrote before now old new seen capacity v ReadFault s t = paused_ends connection cap left mid rest_left held said wrote before now old new seen capacity v ReadFault s t
+halts connection cap left mid rest_left held said wrote before now old new seen capacity v (Spent bytes) s t = paused_ends connection cap left mid rest_left held said wrote before now old new seen capacity v (Spent bytes) s t
+halts connection cap left mid rest_left held said wrote before now old new seen capacity v (Full entries) s t = absurd t
+halts connection cap left mid rest_left held said wrote before now old new seen capacity v WriteFault s t =
+    record {
+      read = s.taken ++ t.taken;
+      written = s.given ++ t.given;
+      entries = s.entries;
+      took = (took_on _ _ _ _ _ _ _ _ s.took t.took).read;
+      gave = written_on _ _ _ _ _ s.gave t.gave;
+      added = s.added;
+      speaks = broken_speaks connection cap rest_left s.entries seen capacity (s.taken ++ t.taken) (s.given ++ t.whole) (s.given ++ t.given) between s.before
+          (leads_more connection between v between _ _ _ _ _ _ s.leads t.leads)
+          (t.short.0, t.short.1, append_assoc s.given t.given t.short.0 ∙ ap (λ x. s.given ++ x) t.short.2)
+          (s.earlier.0 ++ t.given, sym (append_assoc s.before s.earlier.0 t.given) ∙ ap (λ x. x ++ t.given) s.earlier.1)
+          (λ h. s.last h t.taken);
+    }
+
+-- A call that was answered by the end of the session.
+pub record Asking (connection : Connection) (cap : ℕ) (left rest_left held said : Option (List ℕ)) (now : ℕ) (old mid : List Entry) (v : Work) (call : Call) : Type 0 where
+  pub serving : Serving connection cap left rest_left held said now old mid v
+  pub others : List Command
+  pub notify : Bool
+  pub work : v ≡ working call.app (call.command ∷ others) notify
+  pub call_is : call ≡ call_of connection call.app call.command
+
+asked_step : (connection : Connection) (v : Work) (call : Call) (others : List Command) (notify : Bool) (r : CoreReply)
+    → v ≡ working call.app (call.command ∷ others) notify → call ≡ call_of connection call.app call.command
+    → Leads connection v [] (call ∷ []) (r ∷ []) (spell_core call.app r) (work_after call.app others notify r)
+asked_step connection v call others notify r is call_is =
+    subst (λ (x : Work). Leads connection x [] (call ∷ []) (r ∷ []) (spell_core call.app r) (work_after call.app others notify r)) (sym is)
+    (subst (λ (k : Call). Leads connection (working call.app (call.command ∷ others) notify) [] (k ∷ []) (r ∷ []) (spell_core call.app r) (work_after call.app others notify r)) (sym call_is)
+    (leads_step connection call.app call.command others notify r))
+
+-- its reply was not written whole
+pub reply_broke : (connection : Connection) (cap : ℕ) (left rest_left held said wrote : Option (List ℕ)) (now : ℕ) (old mid new : List Entry) (seen capacity : ℕ) (v : Work) (call : Call) (r : CoreReply)
+    → Asking connection cap left rest_left held said now old mid v call → Added call r mid new → PartSaid (spell_core call.app r) said wrote
+    → Served connection cap left rest_left held wrote old new seen capacity WriteFault
+reply_broke connection cap left rest_left held said wrote now old mid new seen capacity v call r a add t =
+    let s = a.serving in
+    let e : Entry = record { call = call; word = add.word; reply = r } in
+    let leads = leads_asked connection between v _ _ _ _ _ _ _ _ s.leads (asked_step connection v call a.others a.notify r a.work a.call_is) in
+    record {
+      read = s.taken;
+      written = s.given ++ t.given;
+      entries = s.entries ++ e ∷ [];
+      took = s.took.read;
+      gave = written_on _ _ _ _ _ s.gave t.gave;
+      added = add.is ∙ ap (λ (x : List Entry). x ++ e ∷ []) s.added ∙ append_assoc old s.entries (e ∷ []);
+      speaks = broken_speaks connection cap rest_left (s.entries ++ e ∷ []) seen capacity s.taken (s.given ++ spell_core call.app r) (s.given ++ t.given)
+          (work_after call.app a.others a.notify r) s.given
+          (subst (λ (k : List Call). Leads connection between s.taken k (replies_of (s.entries ++ e ∷ [])) (s.given ++ spell_core call.app r) (work_after call.app a.others a.notify r)) (sym (calls_push s.entries e))
+          (subst (λ (k : List CoreReply). Leads connection between s.taken (calls_of s.entries ++ call ∷ []) k (s.given ++ spell_core call.app r) (work_after call.app a.others a.notify r)) (sym (replies_push s.entries e))
+          leads))
+          (t.short.0, t.short.1, append_assoc s.given t.given t.short.0 ∙ ap (λ x. s.given ++ x) t.short.2)
+          (t.given, refl)
+          (λ h. ap (λ (b : List ℕ). (walk connection (messages b) (replies_of (but_last (s.entries ++ e ∷ [])))).text) (sym (append-nil s.taken))
+          ∙ ap (λ (es : List Entry). (walk connection (messages (s.taken ++ [])) (replies_of es)).text) (but_last_push s.entries e)
+          ∙ ap (λ (x : Said). x.text) (due_text connection call a.others a.notify v s.taken (calls_of s.entries) (replies_of s.entries) s.given [] s.leads a.work)
+          ∙ append-nil s.given);
+    }
+
+-- the journal was full
+module _ (connection : Connection) (cap : ℕ) (left rest_left held said wrote : Option (List ℕ)) (now : ℕ) (old mid new : List Entry) (seen capacity : ℕ) (v : Work) (call : Call)
+    (full : JournalFull) (a : Asking connection cap left rest_left held said now old mid v call) (w : WasFull full capacity seen mid new) where
+  due_said : walk connection (messages a.serving.taken) (replies_of a.serving.entries)
+      ≡ record { asked = calls_of a.serving.entries ++ call_of connection call.app call.command ∷ []; text = a.serving.given ++ []; due = Some (call_of connection call.app call.command) }
+  due_said =
+      ap (λ (b : List ℕ). walk connection (messages b) (replies_of a.serving.entries)) (sym (append-nil a.serving.taken))
+      ∙ due_text connection call a.others a.notify v a.serving.taken (calls_of a.serving.entries) (replies_of a.serving.entries) a.serving.given [] a.serving.leads a.work
+
+  found_full : seen ≡ capacity
+  found_full = w.full
+
+  pub full_ends : (count : ℕ) → count ≡ full.entries → WasWritten said (spell call.app (reply.Error fault.General)) wrote
+      → Served connection cap left rest_left held wrote old new seen capacity (Full count)
+  full_ends count is gave = record {
+    read = a.serving.taken;
+    written = a.serving.given ++ spell call.app (reply.Error fault.General);
+    entries = a.serving.entries;
+    took = a.serving.took.read;
+    gave = written_on _ _ _ _ _ a.serving.gave gave;
+    added = w.stays ∙ a.serving.added;
+    speaks = speaks_by _ a.serving.taken _ a.serving.entries _ (Full count) due_said refl
+        (ap (λ x. x ++ spell call.app (reply.Error fault.General)) (sym (append-nil a.serving.given)), found_full, is ∙ w.entries);
+  }
+
+  pub full_broke : PartSaid (spell call.app (reply.Error fault.General)) said wrote → Served connection cap left rest_left held wrote old new seen capacity WriteFault
+  full_broke t = record {
+    read = a.serving.taken;
+    written = a.serving.given ++ t.given;
+    entries = a.serving.entries;
+    took = a.serving.took.read;
+    gave = written_on _ _ _ _ _ a.serving.gave t.gave;
+    added = w.stays ∙ a.serving.added;
+    speaks = speaks_by _ a.serving.taken _ a.serving.entries _ WriteFault due_said refl (
+      inr (
+        found_full,
+        (
+          t.short.0,
+          t.short.1,
+          append_assoc a.serving.given t.given t.short.0 ∙ ap (λ x. a.serving.given ++ x) t.short.2
+              ∙ ap (λ x. x ++ spell call.app (reply.Error fault.General)) (sym (append-nil a.serving.given)),
+        ),
+      ),
+      λ h. (
+        a.serving.earlier.0 ++ t.given,
+        ap (λ x. x ++ (a.serving.earlier.0 ++ t.given))
+            (ap (λ (b : List ℕ). (walk connection (messages b) (replies_of (but_last a.serving.entries))).text) (sym (append-nil a.serving.taken)) ∙ a.serving.last h [])
+            ∙ sym (append_assoc a.serving.before a.serving.earlier.0 t.given) ∙ ap (λ x. x ++ t.given) a.serving.earlier.1,
+      ),
+    );
+  }
+
+-- what the core did with a call
+abbrev pub CoreDid : Call → Result CoreReply JournalFull → ℕ → ℕ → List Entry → List Entry → Type 0
+CoreDid call done seen capacity mid new = MatchResult done (λ r. Added call r mid new) (λ e. WasFull e capacity seen mid new)
+
+pub answer_ends : (connection : Connection) (cap : ℕ) (left rest_left held said wrote : Option (List ℕ)) (now : ℕ) (old mid new : List Entry) (seen capacity : ℕ) (v : Work) (call : Call)
+    (done : Result CoreReply JournalFull) (ending : Ending)
+    → Asking connection cap left rest_left held said now old mid v call → CoreDid call done seen capacity mid new → AnswerEnds ending call.app done said wrote
+    → Served connection cap left rest_left held wrote old new seen capacity ending
+answer_ends connection cap left rest_left held said wrote now old mid new seen capacity v call (Ok r) WriteFault a did e = reply_broke connection cap left rest_left held said wrote now old mid new seen capacity v call r a did e
+answer_ends connection cap left rest_left held said wrote now old mid new seen capacity v call (Err f) WriteFault a did e = full_broke connection cap left rest_left held said wrote now old mid new seen capacity v call f a did e
+answer_ends connection cap left rest_left held said wrote now old mid new seen capacity v call (Err f) (Full count) a did e = full_ends connection cap left rest_left held said wrote now old mid new seen capacity v call f a did count e.0 e.1
+answer_ends connection cap left rest_left held said wrote now old mid new seen capacity v call (Ok r) (Full count) a did e = absurd e
+answer_ends connection cap left rest_left held said wrote now old mid new seen capacity v call done Clean a did e = absurd e
+answer_ends connection cap left rest_left held said wrote now old mid new seen capacity v call done (Cut have need) a did e = absurd e
+answer_ends connection cap left rest_left held said wrote now old mid new seen capacity v call done ReadFault a did e = absurd e
+answer_ends connection cap left rest_left held said wrote now old mid new seen capacity v call done (Spent bytes) a did e = absurd e
+
+pub answer_goes : (connection : Connection) (cap : ℕ) (left rest_left held said wrote : Option (List ℕ)) (now : ℕ) (old mid new : List Entry) (seen capacity : ℕ) (v w : Work) (call : Call)
+    (done : Result CoreReply JournalFull)
+    → Asking connection cap left rest_left held said now old mid v call → CoreDid call done seen capacity mid new → GoesOn connection v call said wrote done w
+    → Serving connection cap left rest_left held wrote now old new w
+answer_goes connection cap left rest_left held said wrote now old mid new seen capacity v w call (Ok r) a did e =
+    replied connection cap left rest_left held said wrote now old mid new v w call r a.others a.notify a.serving a.work did e
+answer_goes connection cap left rest_left held said wrote now old mid new seen capacity v w call (Err f) a did e = absurd e
+
+-- The same between states of a session.
+pub record Kept (connection : Connection) (cap capacity : ℕ) (s : State) (core_capacity : ℕ) : Type 0 where
+  pub place_is : s.connection ≡ connection
+  pub cap_is : s.cap ≡ cap
+  pub capacity_is : core_capacity ≡ capacity
+
+pub poll_goes : (connection : Connection) (cap : ℕ) (left mid rest_left held said wrote : Option (List ℕ)) (s t : State) (old new : List Entry)
+    → Serving connection cap left mid held said s.budget old new s.work → s.connection ≡ connection
+    → Spoke s.connection s.work mid rest_left said wrote s.budget t.budget t.work → Serving connection cap left rest_left held wrote t.budget old new t.work
+poll_goes connection cap left mid rest_left held said wrote s t old new f same spoke =
+    polled connection cap left mid rest_left held said wrote s.budget t.budget old new s.work t.work f
+    (subst (λ (p : Connection). Spoke p s.work mid rest_left said wrote s.budget t.budget t.work) same spoke)
+
+pub poll_ends : (connection : Connection) (cap : ℕ) (left mid rest_left held said wrote : Option (List ℕ)) (s t : State) (old new : List Entry) (seen capacity : ℕ) (ending : Ending)
+    → Serving connection cap left mid held said s.budget old new s.work → s.connection ≡ connection → s.cap ≡ cap
+    → Halted s.connection s.cap s.work mid rest_left said wrote s.budget t.budget ending → Served connection cap left rest_left held wrote old new seen capacity ending
+poll_ends connection cap left mid rest_left held said wrote s t old new seen capacity ending f same cap_is halted =
+    halts connection cap left mid rest_left held said wrote s.budget t.budget old new seen capacity s.work ending f
+    (subst (λ (n : ℕ). Halted connection n s.work mid rest_left said wrote s.budget t.budget ending) cap_is
+    (subst (λ (p : Connection). Halted p s.cap s.work mid rest_left said wrote s.budget t.budget ending) same halted))
+
+pub asking : (connection : Connection) (cap : ℕ) (left rest_left held said : Option (List ℕ)) (t : State) (old mid : List Entry) (call : Call)
+    → Serving connection cap left rest_left held said t.budget old mid t.work → t.connection ≡ connection → Waits call t
+    → Asking connection cap left rest_left held said t.budget old mid t.work call
+asking connection cap left rest_left held said t old mid call f same w = record {
+  serving = f;
+  others = w.others;
+  notify = w.notify;
+  work = w.work;
+  call_is = w.call_is ∙ ap (λ (p : Connection). call_of p call.app call.command) same;
+}
+
+pub goes_at : (connection also : Connection) (v w : Work) (call : Call) (said wrote : Option (List ℕ)) (done : Result CoreReply JournalFull)
+    → also ≡ connection → GoesOn also v call said wrote done w → GoesOn connection v call said wrote done w
+goes_at connection also v w call said wrote done same e = subst (λ (p : Connection). GoesOn p v call said wrote done w) same e
+
+pub served_at : (connection : Connection) (cap : ℕ) (left rest_left later held wrote : Option (List ℕ)) (old new : List Entry) (seen m n : ℕ) (ending : Ending)
+    → later ≡ rest_left → m ≡ n → Served connection cap left rest_left held wrote old new seen m ending → Served connection cap left later held wrote old new seen n ending
+served_at connection cap left rest_left later held wrote old new seen m n ending e f s =
+    subst (λ (k : ℕ). Served connection cap left later held wrote old new seen k ending) f
+    (subst (λ (x : Option (List ℕ)). Served connection cap left x held wrote old new seen m ending) (sym e) s)
+
+pub serving_at : (connection : Connection) (cap : ℕ) (left rest_left later held wrote : Option (List ℕ)) (m n : ℕ) (old new : List Entry) (w : Work)
+    → later ≡ rest_left → n ≡ m → Serving connection cap left rest_left held wrote m old new w → Serving connection cap left later held wrote n old new w
+serving_at connection cap left rest_left later held wrote m n old new w e f s =
+    subst (λ (k : ℕ). Serving connection cap left later held wrote k old new w) (sym f)
+    (subst (λ (x : Option (List ℕ)). Serving connection cap left x held wrote m old new w) (sym e) s)

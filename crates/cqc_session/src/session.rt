@@ -1,0 +1,146 @@
+// One connection.
+ghost use Rattle.std.specs.Prelude.{◌≡◌, ℕ, ◌≤◌, ◌<◌, ◌^◌, MatchOption, IfNone, IfOk};
+ghost use Rattle.cqc_session.specs.State.{State, work_of, begun};
+
+use crate::cursor::Cursor;
+use crate::message::say;
+use crate::next::{Next, next_command};
+use crate::reply::{refused, say_core};
+use crate::take::{Taken, take_message};
+use crate::turn::Turn;
+use cqc_model::{Fault, Reply};
+use network_model::{Call, CoreReply, JournalFull};
+use qron_link::Link;
+use session_model::Ending;
+use std::alloc::{AllocError, Global};
+use std::marker::Model;
+
+/// One connection: its bytes as a function of the core's replies.
+#[derive(Drop)]
+pub struct Session {
+    seat: u16,
+    serial: u16,
+    node: u8,
+    cap: u64,
+    budget: u64,
+    app: u16,
+    busy: bool,
+    cursor: Cursor,
+}
+
+impl Model for Session {
+    ghost Value = { State };
+
+    ghost view = { λ s. record {
+      connection = record { seat = s.seat; serial = s.serial; node = s.node };
+      cap = s.cap;
+      budget = s.budget;
+      work = work_of s.busy s.app s.cursor.left s.cursor.notify;
+    } };
+}
+
+impl Session {
+    ghost use Rattle.cqc_session.specs.State.{Waits, steps_left};
+    ghost use Rattle.cqc_session.specs.Session.{PollDid, TurnCause, StepsKept, GoesOn, AnswerEnds, AnswerCause};
+
+    /// A session of a seat at a node, which reads at most so many bytes of a connection. All its room is taken here.
+    pub fn new(alloc: Global, seat: u16, node: u8, cap: u64) -> Result<Session, AllocError>
+        requires some { 1 ≤ cap }
+        requires most { cap ≤ 2 ^ 32 }
+        ensures { IfOk result (λ s. s ≡ begun (record { seat = seat; serial = 0; node = node }) cap) }
+    {
+        let cursor = Cursor::new(alloc)?;
+        Ok(Session {
+            seat,
+            serial: 0,
+            node,
+            cap,
+            budget: cap,
+            app: 0,
+            busy: false,
+            cursor,
+        })
+    }
+
+    /// A new connection. Nothing of the old one is left.
+    pub fn begin(&mut self, serial: u16)
+        ensures { self.new ≡ begun (record self.old.connection { serial = serial }) self.old.cap }
+    {
+        self.serial = serial;
+        self.budget = self.cap;
+        self.busy = false;
+    }
+
+    /// Reads and answers until a command is to be executed or the session ends.
+    pub fn poll<L: Link>(&mut self, link: &mut L) -> Turn
+        ensures turn { PollDid self.old self.new (L.left link.old) (L.left link.new) (L.held link.old) (L.held link.new) result }
+        ensures connection { self.new.connection ≡ self.old.connection }
+        ensures cap { self.new.cap ≡ self.old.cap }
+        ensures steps { StepsKept result (steps_left self.old) (steps_left self.new) }
+        ensures cause { TurnCause result (L.read_faults link.old) (L.read_faults link.new) (L.write_faults link.old) (L.write_faults link.new) }
+    {
+        loop {
+            match next_command(link, &self.cursor, self.app, self.busy) {
+                Next::Ask(command) => {
+                    return Turn::Execute(Call {
+                        seat: self.seat,
+                        serial: self.serial,
+                        node: self.node,
+                        app: self.app,
+                        command,
+                    });
+                }
+                Next::Refused => return Turn::End(Ending::WriteFault),
+                Next::Ready => {}
+            }
+            self.busy = false;
+            match take_message(link, &mut self.cursor, &mut self.budget, self.cap) {
+                Taken::Answered => {}
+                Taken::Opened { app } => {
+                    self.app = app;
+                    self.busy = true;
+                }
+                Taken::Stopped(ending) => return Turn::End(ending),
+            }
+        }
+    }
+
+    /// Hands in what the core answered. None: its reply is written, and the session goes on.
+    /// It waits for this after `poll` said that a call is to be executed.
+    pub fn answer<L: Link>(
+        &mut self,
+        link: &mut L,
+        done: Result<CoreReply, JournalFull>,
+    ) -> Option<Ending>
+        requires { (call : Call) × Waits call self.old }
+        ensures answered { (call : Call) → Waits call self.old → MatchOption result
+            (GoesOn self.old.connection self.old.work call (L.held link.old) (L.held link.new) done self.new.work)
+            (λ ending. AnswerEnds ending call.app done (L.held link.old) (L.held link.new)) }
+        ensures connection { self.new.connection ≡ self.old.connection }
+        ensures cap { self.new.cap ≡ self.old.cap }
+        ensures budget { self.new.budget ≡ self.old.budget }
+        ensures steps { IfNone result (steps_left self.new < steps_left self.old) }
+        ensures left { L.left link.new ≡ L.left link.old }
+        ensures read_faults { L.read_faults link.new ≡ L.read_faults link.old }
+        ensures cause { MatchOption result (L.write_faults link.old ≤ L.write_faults link.new)
+            (λ ending. AnswerCause ending (L.write_faults link.old) (L.write_faults link.new)) }
+    {
+        match done {
+            Ok(reply) => {
+                if !say_core(link, self.app, &reply) {
+                    return Some(Ending::WriteFault);
+                }
+                self.cursor.after(!refused(&reply));
+                None
+            }
+            Err(full) => {
+                if say(link, self.app, &Reply::Error(Fault::General)) {
+                    return Some(Ending::Full {
+                        entries: full.entries,
+                    });
+                }
+                Some(Ending::WriteFault)
+            }
+        }
+    }
+}

@@ -1,0 +1,55 @@
+// One message: read whole, and answered where its answer is fixed, else opened.
+ghost use Rattle.std.specs.Prelude.{◌≡◌, ℕ, ◌≤◌, ◌<◌, length};
+ghost use Rattle.session_model.specs.Walk.{Connection};
+ghost use Rattle.cqc_session.specs.Session.{TakenAs, TakenCause};
+
+use crate::cursor::Cursor;
+use crate::message::{refusal, say};
+use crate::part::{pass_body, read_head};
+use cqc_model::Reply;
+use cqc_wire::read_header;
+use qron_link::Link;
+use session_model::Ending;
+
+/// What became of a message.
+#[derive(Drop)]
+pub enum Taken {
+    Answered,
+    Opened { app: u16 },
+    Stopped(Ending),
+}
+
+/// Takes one message.
+pub fn take_message<L: Link>(link: &mut L, cursor: &mut Cursor, budget: &mut u64, cap: u64) -> Taken
+    ensures taken { (connection : Connection) → TakenAs connection cap (L.left link.old) (L.left link.new) (L.held link.old) (L.held link.new)
+        budget.old budget.new cursor.new.left cursor.new.notify result }
+    ensures cause { TakenCause result (L.read_faults link.old) (L.read_faults link.new) (L.write_faults link.old) (L.write_faults link.new) }
+{
+    let mut head = [0u8; 8];
+    if let Some(ending) = read_head(link, &mut head, budget, cap) {
+        return Taken::Stopped(ending);
+    }
+    let header = read_header(&head);
+    if let Some(reply) = refusal(&header) {
+        if let Some(ending) = pass_body(link, header.length, budget, cap) {
+            return Taken::Stopped(ending);
+        }
+        if say(link, header.app, &reply) {
+            return Taken::Answered;
+        }
+        return Taken::Stopped(Ending::WriteFault);
+    }
+    if let Some(ending) = cursor.load(link, header.length, budget, cap) {
+        return Taken::Stopped(ending);
+    }
+    match cursor.open() {
+        None => Taken::Opened { app: header.app },
+        Some(fault) => {
+            if say(link, header.app, &Reply::Error(fault)) {
+                Taken::Answered
+            } else {
+                Taken::Stopped(Ending::WriteFault)
+            }
+        }
+    }
+}
