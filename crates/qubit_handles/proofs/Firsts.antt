@@ -80,3 +80,34 @@ module _ {A : Type 0} (p : A → Bool) where
           → cond (p x) xs (x ∷ without_first p xs) ≡ cond (not (p x)) (x ∷ filter (λ y. not (p y)) xs) (filter (λ y. not (p y)) xs)
       by true t again = ap (λ b. cond b xs (x ∷ without_first p xs)) t ∙ sym (count_none p xs (none (count_by p xs) (few true t))) ∙ sym (ap (λ b. cond (not b) (x ∷ filter (λ y. not (p y)) xs) (filter (λ y. not (p y)) xs)) t)
       by false t again = ap (λ b. cond b xs (x ∷ without_first p xs)) t ∙ ap (λ l. x ∷ l) (again (some (count_by p xs) (few false t))) ∙ sym (ap (λ b. cond (not b) (x ∷ filter (λ y. not (p y)) xs) (filter (λ y. not (p y)) xs)) t)
+
+  -- the element at the first place that passes, as a place gives it
+  pub found_there : (xs : List A) (i : ℕ) (x : A) → position p xs ≡ Some i → slice_get xs i ≡ Some x → find p xs ≡ Some x
+  found_there xs i x e s = find_at p xs ∙ ap (slice_get xs) ((place_is xs i e).0) ∙ s
+
+  -- of what passes, the first goes
+  pub filter-without_first : (xs : List A) (x : A) → find p xs ≡ Some x → filter p xs ≡ x ∷ filter p (without_first p xs)
+  unfolding without_first
+  filter-without_first [] x e = cc
+  filter-without_first (y ∷ xs) x e = by (p y) refl (λ f. filter-without_first xs x f)
+    where
+      by : (t : Bool) → p y ≡ t → (find p xs ≡ Some x → filter p xs ≡ x ∷ filter p (without_first p xs))
+          → cond (p y) (y ∷ filter p xs) (filter p xs) ≡ x ∷ filter p (cond (p y) xs (y ∷ without_first p xs))
+      by true t again =
+          let is : Some y ≡ Some x = sym (ap (λ b. cond b (Some y) (find p xs)) t) ∙ e in
+          let same : y ≡ x = cc in
+          ap (λ b. cond b (y ∷ filter p xs) (filter p xs)) t ∙ ap (λ z. z ∷ filter p xs) same ∙ sym (ap (λ b. x ∷ filter p (cond b xs (y ∷ without_first p xs))) t)
+      by false t again =
+          ap (λ b. cond b (y ∷ filter p xs) (filter p xs)) t ∙ again (sym (ap (λ b. cond b (Some y) (find p xs)) t) ∙ e)
+          ∙ sym (ap (λ b. x ∷ cond b (y ∷ filter p (without_first p xs)) (filter p (without_first p xs))) t)
+          ∙ sym (ap (λ b. x ∷ filter p (cond b xs (y ∷ without_first p xs))) t)
+
+  -- of what passes only other tests, nothing goes
+  pub filter-without_other : (q : A → Bool) → ((x : A) → p x ≡ true → q x ≡ false) → (xs : List A) → filter q (without_first p xs) ≡ filter q xs
+  unfolding without_first
+  filter-without_other q apart [] = refl
+  filter-without_other q apart (y ∷ xs) = by (p y) refl (filter-without_other q apart xs)
+    where
+      by : (t : Bool) → p y ≡ t → filter q (without_first p xs) ≡ filter q xs → filter q (cond (p y) xs (y ∷ without_first p xs)) ≡ cond (q y) (y ∷ filter q xs) (filter q xs)
+      by true t again = ap (λ b. filter q (cond b xs (y ∷ without_first p xs))) t ∙ sym (ap (λ b. cond b (y ∷ filter q xs) (filter q xs)) (apart y t))
+      by false t again = ap (λ b. filter q (cond b xs (y ∷ without_first p xs))) t ∙ ap (λ l. cond (q y) (y ∷ l) l) again
