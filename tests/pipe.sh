@@ -37,6 +37,13 @@ expect 'an unknown word' 2 '' 'qron: words' $hello dance
 expect 'a word too many' 2 '' 'qron: words' $hello pipe x
 expect 'no help' 2 '' 'qron: words' $hello --help
 
+# so many times the same bytes
+repeat() { local text; text=$(printf "%$2s"); printf '%s' "${text// /$1}"; }
+
+# a qubit of size 2^59: T is done and H is refused with GENERAL; the way back shows that the refused H changed nothing
+expect 'a refused gate changes nothing' 0 ${new}0214000000000000020700000000000100 '' \
+    "02010000000003b00000010000001100$(repeat 00000d0000001100 117)0201000000000421$(repeat 00001000e000001100 117)00000200" pipe
+
 # a closed output is a fault
 bytes $hello | "$top/qron" pipe >&- 2>"$room/err"
 got="${PIPESTATUS[1]} $(cat "$room/err")"

@@ -114,9 +114,9 @@ instr_of number extra =
 abbrev pub has_option : ℕ → ℕ → Bool
 has_option k options = ((options / (2 ^ k)) % 2) == 1
 
--- the numbers of the instructions that are built: NEW, MEASURE and H
+-- the numbers of the instructions that are built: those on one qubit that stays at its node
 unfoldable pub is_built_instr : ℕ → Bool
-is_built_instr number = number == 1 || number == 2 || number == 17
+is_built_instr number = nat_le number 4 || nat_le 10 number && nat_le number 18 || number == 23
 
 -- every other number is an unknown instruction
 abbrev pub is_unknown : ℕ → Bool

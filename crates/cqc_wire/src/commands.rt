@@ -110,12 +110,12 @@ fn is_known(number: u8) -> bool
     is_built(number) && extra_size_of(number).is_some()
 }
 
-// Whether the instruction of a number is built: NEW, MEASURE and H are.
+// Whether the instruction of a number is built: those on one qubit that stays at its node are.
 #[tactic(auto, unfolding(cqc_model::specs::Plan::is_built_instr))]
 fn is_built(number: u8) -> bool
     ensures { result ≡ is_built_instr number }
 {
-    matches!(number, number::NEW | number::MEASURE | number::H)
+    matches!(number, number::I..=number::RESET | number::X..=number::K | number::RELEASE)
 }
 
 // The bytes of an instruction's extra header: a rotation's step, another qubit, or a remote application.

@@ -218,6 +218,67 @@ fn hello_and_commands_are_answered(rt: HostRuntime) -> Result<(), Fail> {
 }
 
 #[test]
+fn every_instruction_on_one_qubit_is_answered(rt: HostRuntime) -> Result<(), Fail> {
+    let cases = [
+        // X and Y make the outcome 1 certain
+        (
+            "02010000000000180000010000000a00000002000000010000000c0000000200",
+            [MOST, MOST],
+            "020a0000000000020000020700000000000101020a0000000000020000020700000000000101",
+        ),
+        // Z between two H is X, and K twice does nothing
+        (
+            "0201000000000024000001000000110000000b00000011000000020000000100000012000000120000000200",
+            [MOST, 0],
+            "020a0000000000020000020700000000000101020a0000000000020000020700000000000100",
+        ),
+        // half turns about x and y are X and Y
+        (
+            "020100000000001a0000010000000e0080000002000000010000000f008000000200",
+            [MOST, MOST],
+            "020a0000000000020000020700000000000101020a0000000000020000020700000000000101",
+        ),
+        // after H, T and H the threshold is 2^62 (2 - sqrt 2): the last word that gives 1, and the next
+        (
+            "0201000000000014000001000000110000000d000000110000000200",
+            [2_701_463_124_188_384_701, 0],
+            "020a0000000000020000020700000000000101",
+        ),
+        (
+            "0201000000000014000001000000110000000d000000110000000200",
+            [2_701_463_124_188_384_702, 0],
+            "020a0000000000020000020700000000000100",
+        ),
+        // a rotation by no eighth of a turn is refused without a DONE, and the qubit stays
+        (
+            "020100000000000d00000100000010001000001101020100000000000400000a01",
+            [0, 0],
+            "020a000000000002000002160000000000000204000000000000",
+        ),
+        // of a qubit that isn't held it is unknown
+        ("020100000000000500090e0001", [0, 0], "0219000000000000"),
+        // a measurement in place takes a word, and leaves the outcome
+        (
+            "02010000000000140000010000001100000003000000110000000200",
+            [MOST, 0],
+            "020a0000000000020000020700000000000100020700000000000101",
+        ),
+        // RESET leaves 0 and says nothing, I does nothing, and RELEASE lets the qubit go
+        (
+            "020100000000001c0000010000000a000000040000000000000003000000170000000100",
+            [0, 0],
+            "020a0000000000020000020700000000000100020a0000000000020000",
+        ),
+    ];
+    for (input, words, output) in cases {
+        let answer = run_with(rt.alloc(), faultless(input, words), &["pipe"], 7)?;
+        assert_eq!(rt; answer.status, 0, "{input}");
+        assert_eq!(rt; answer.output.as_str(), output, "{input}");
+    }
+    Ok(())
+}
+
+#[test]
 fn refused_messages_have_one_error(rt: HostRuntime) -> Result<(), Fail> {
     let cases = [
         // a command cut short by its body: nothing of it is executed
