@@ -6,7 +6,9 @@ pub mod Stored
 pub mod Loops
 pub mod Sums
 pub mod Steps
+pub mod Divided
 pub mod Fields
+pub mod SealedDrafts
 pub mod RowPairs
 pub mod ChangedRows
 pub mod PreparedRows

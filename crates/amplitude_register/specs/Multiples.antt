@@ -1,7 +1,7 @@
 -- Lists of coefficients: sizes of their coordinates, multiples entry by entry, and places of a row.
 use Rattle.std.specs.Prelude.{◌≡◌, ℕ, pos, ◌<◌, ◌^◌, List, length}
 use Rattle.state_model.specs.Coefficient.{Coefficient, coefficient, ◌⊗◌}
-use Rattle.state_model.specs.CoefficientList.{at}
+use Rattle.state_model.specs.CoefficientList.{at, IsReduced, IsScaled}
 use Rattle.omega_ring.specs.Range.{CoordinatesBelow}
 
 -- 1 + w, whose weight is that of 1 - w with the other sign before √2
@@ -16,6 +16,11 @@ AllWithin n vs = (i : ℕ) → CoordinatesBelow n (at vs i)
 pub record AreTimes (vs us : List Coefficient) (u : Coefficient) : Type 0 where
   pub rows : length vs ≡ length us
   pub value : (i : ℕ) → at vs i ≡ at us i ⊗ u
+
+-- the second list is the first over all that its entries have in common
+pub record IsReducedFrom (vs us : List Coefficient) : Type 0 where
+  pub scaled : IsScaled us vs
+  pub reduced : IsReduced us
 
 -- so many rows are those of some number of qubits, of which one is at the place
 pub record HasPlace (place rows : ℕ) : Type 0 where

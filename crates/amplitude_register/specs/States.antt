@@ -1,10 +1,12 @@
 -- What contracts see of a register.
 use Rattle.std.specs.Prelude.{◌≡◌, ℕ, ℤ, pos, nat_abs, ◌^◌, ◌<ℤ◌, ◌≤ℤ◌, List, [], ◌∷◌, length, Bool, cond, slice_set, replicate, Option, Some, None}
 use Rattle.state_model.specs.Coefficient.{Coefficient, zero_coefficient, one_coefficient, scaled}
-use Rattle.state_model.specs.CoefficientList.{IsScaled, IsNormal, IsLeastSize, total_weight}
+use Rattle.state_model.specs.CoefficientList.{IsScaled, IsNormal, IsLeastSize, HasDeltaDivisors, total_weight}
 use Rattle.state_model.specs.StateVector.{IsSameState, IsSize}
 use Rattle.state_model.specs.Gate.{Matrix}
 use Rattle.state_model.specs.Amplitudes.{Amplitudes, vector_of, HasRows, IsGateList}
+use Rattle.amplitude_register.specs.declared.register.Reduce.{Reduce}
+use Rattle.amplitude_register.specs.declared.register.Reduce.TheVariants.{Delta, Full}
 
 -- the next value: none, a draft that is being written, or a prepared value
 pub data Next : Type 0 where
@@ -87,6 +89,11 @@ pub record IsGateStep (m : Matrix) (place s : ℕ) (old new : RegisterState) : T
   pub rows : length (next_value new.next).list ≡ length (next_value old.next).list
   pub list : IsGateList m place (next_value old.next).list (next_value new.next).list
   pub weight : total_weight (next_value new.next).list ≡ scaled s (total_weight (next_value old.next).list)
+
+-- a list that can be reduced by powers of 1 - w has no other common divisors, and one that can be reduced fully is small
+abbrev pub CanReduce : Reduce → List Coefficient → Type 0
+CanReduce Delta list = HasDeltaDivisors list
+CanReduce Full list = (total_weight list).x <ℤ pos (2 ^ 60)
 
 -- the draft, reduced and balanced, is prepared, and stands for the same state
 pub record IsSealed (old new : RegisterState) : Type 0 where

@@ -4,6 +4,7 @@
 
 mod balancing;
 mod block;
+mod common;
 mod division;
 mod fronts;
 mod normal;

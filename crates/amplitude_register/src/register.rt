@@ -10,11 +10,12 @@ ghost use Rattle.state_model.specs.Amplitudes.{vector_of, AreDistinct, HasRows};
 ghost use Rattle.omega_ring.specs.Views.{omega_value, weight_value};
 ghost use Rattle.omega_ring.specs.Range.{CoordinatesBelow};
 ghost use Rattle.amplitude_register.specs.declared.block.Stage.TheVariants.{Weighed};
-ghost use Rattle.amplitude_register.specs.States.{RegisterState, empty, draft, prepared, no_qubit, basis_state, pair_state, zeros, IsDraft, IsPrepared, IsPresent, IsNextKept, next_value, prepared_qubits, with_list, with_row, IsKept, IsGateStep, IsSealed, IsRefused};
+ghost use Rattle.amplitude_register.specs.Multiples.{IsReducedFrom};
+ghost use Rattle.amplitude_register.specs.States.{RegisterState, empty, draft, prepared, no_qubit, basis_state, pair_state, zeros, IsDraft, IsPrepared, IsPresent, IsNextKept, next_value, prepared_qubits, with_list, with_row, IsKept, IsGateStep, IsSealed, IsRefused, CanReduce};
 
 use crate::block::{Block, Stage};
 use crate::scalars::opposite;
-use crate::{fronts, normal, rows};
+use crate::{common, fronts, normal, rows};
 use omega_ring::{Omega, Weight};
 use std::alloc::{AllocError, Global};
 use std::marker::Model;
@@ -55,6 +56,8 @@ pub struct TooLarge {
 pub enum Reduce {
     /// Powers of 1 - w, which are all that can come in by a gate.
     Delta,
+    /// A greatest common divisor, of a draft whose sum of squares is below 2^60.
+    Full,
 }
 
 /// All sizes are below this.
@@ -254,15 +257,46 @@ impl Register {
     }
 
     /// Reduces and balances the draft and prepares it; TooLarge, with the least size of the draft's state, exactly
-    /// where that is 2^60 or more. Then draft and prepared value are gone.
+    /// where that is 2^60 or more, which no fully reduced draft can be. Then draft and prepared value are gone.
     pub fn seal(&mut self, how: Reduce) -> Result<(), TooLarge>
+        requires open { IsDraft self.old.next }
+        requires nonzero { IsNonzero (next_value self.old.next).list }
+        requires small { (total_weight (next_value self.old.next).list).x <ℤ pos (2 ^ 122) }
+        requires divisors { CanReduce how (next_value self.old.next).list }
+        ensures { MatchResult result (λ _. IsSealed self.old self.new) (λ e. IsRefused self.old self.new e.size) }
+    {
+        match how {
+            Reduce::Delta => self.seal_draft(),
+            Reduce::Full => {
+                self.divide_draft();
+                self.seal_draft()
+            }
+        }
+    }
+
+    /// Divides the draft by a greatest common divisor of its entries.
+    fn divide_draft(&mut self)
+        requires open { IsDraft self.old.next }
+        requires nonzero { IsNonzero (next_value self.old.next).list }
+        requires small { (total_weight (next_value self.old.next).list).x <ℤ pos (2 ^ 60) }
+        ensures after { self.new ≡ record self.old { next = draft record { qubits = (next_value self.old.next).qubits; list = (next_value self.new.next).list } } }
+        ensures rows { length (next_value self.new.next).list ≡ length (next_value self.old.next).list }
+        ensures reduced { IsReducedFrom (next_value self.old.next).list (next_value self.new.next).list }
+        ensures small { (total_weight (next_value self.new.next).list).x <ℤ pos (2 ^ 62) }
+    {
+        common::divide_common_front(&mut self.next.entries, self.next.rows);
+        self.stage = Stage::Open;
+    }
+
+    /// Divides the draft by powers of 1 - w, which are all that its entries have in common, balances and
+    /// prepares it.
+    fn seal_draft(&mut self) -> Result<(), TooLarge>
         requires open { IsDraft self.old.next }
         requires nonzero { IsNonzero (next_value self.old.next).list }
         requires small { (total_weight (next_value self.old.next).list).x <ℤ pos (2 ^ 122) }
         requires divisors { HasDeltaDivisors (next_value self.old.next).list }
         ensures { MatchResult result (λ _. IsSealed self.old self.new) (λ e. IsRefused self.old self.new e.size) }
     {
-        let _how = how;
         let weight = self.draft_weight();
         self.next.weight = normal::normalize_front(&mut self.next.entries, self.next.rows, weight);
         if self.next.weight.x < SIZES {

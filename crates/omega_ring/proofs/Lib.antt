@@ -6,5 +6,6 @@ pub mod UnitSizes
 pub mod Greatest
 pub mod Sizes
 pub mod Rounding
+pub mod Exact
 pub mod Entries
 pub mod SignLemmas

@@ -78,10 +78,9 @@ within_weight w h k = record { a = omega (arith, h); b = omega (arith, k, abs_ne
 pub nearest_along : (n m : ℤ) (t s q : Coefficient) → m ≡ n → s ≡ t → IsNearest m s q → IsNearest n t q
 nearest_along n m t s q e f k = subst (λ (x : ℤ). IsNearest x t q) e (subst (λ (x : Coefficient). IsNearest m x q) f k)
 
-pub numerator_size : (z u t : Coefficient) (n : ℤ) → IsReady z → IsReady u → pos 0 <ℤ norm u → n ≡ norm u → t ≡ z ⊗ companion u → CoordinatesUpTo (2 ^ 35 * unsigned_abs n) t
+pub numerator_size : (z u t : Coefficient) (n : ℤ) → CoordinatesBelow (2 ^ 31) z → IsReady u → pos 0 <ℤ norm u → n ≡ norm u → t ≡ z ⊗ companion u → CoordinatesUpTo (2 ^ 35 * unsigned_abs n) t
 numerator_size z u t n hz hu h e f =
-    let s = ready_small z hz in
-    let k = product_by_norm z u s.coordinates hu.balanced (weak (norm u) h) in
+    let k = product_by_norm z u hz hu.balanced (weak (norm u) h) in
     subst (λ (x : ℤ). CoordinatesUpTo (2 ^ 35 * unsigned_abs x) t) (sym e) (subst (CoordinatesUpTo (2 ^ 35 * unsigned_abs (norm u))) (sym f) k)
   where
     weak : (x : ℤ) → pos 0 <ℤ x → pos 0 ≤ℤ x

@@ -43,6 +43,20 @@ fn next_common(common: Wide, z: Omega) -> Wide
     common.gcd(z.wide().balanced())
 }
 
+impl Omega {
+    /// The quotient by u, which divides the value, has a balanced weight, and isn't zero.
+    /// All coordinates of the value lie strictly between -2^31 and 2^31.
+    pub fn div_exact(self, u: Omega) -> Omega
+        requires range { CoordinatesBelow (2 ^ 31) (omega_value self) }
+        requires ready { IsReady (omega_value u) }
+        requires nonzero { omega_value u ≢ zero_coefficient }
+        requires divides { Divides (omega_value u) (omega_value self) }
+        ensures { omega_value self ≡ omega_value result ⊗ omega_value u }
+    {
+        self.wide().quotient(u.wide()).short()
+    }
+}
+
 impl Wide {
     /// A greatest common divisor.
     fn gcd(self, u: Wide) -> Wide
@@ -77,7 +91,7 @@ impl Wide {
 
     /// The quotient by u with each coordinate rounded.
     fn quotient(self, u: Wide) -> Wide
-        requires left { IsReady (wide_value self) }
+        requires left { CoordinatesBelow (2 ^ 31) (wide_value self) }
         requires right { IsReady (wide_value u) }
         requires nonzero { wide_value u ≢ zero_coefficient }
         ensures nearest { IsNearest (norm (wide_value u)) (numerator (wide_value self) (wide_value u)) (wide_value result) }
@@ -150,7 +164,7 @@ impl Wide {
 
     /// The value in 64 bits.
     fn short(self) -> Omega
-        requires { IsReady (wide_value self) }
+        requires { CoordinatesBelow (2 ^ 36) (wide_value self) }
         ensures { omega_value result ≡ wide_value self }
     {
         Omega {

@@ -183,11 +183,11 @@ over_clear (p ∷ g) q f out =
     ap (λ n. n + over_rows g (λ x. f (with_bit q false (with_bit p true x)))) (over_clear g q f rest)
     ∙ ap (λ n. over_rows g f + n) (over_same g _ _ (λ x. ap f (with_bit_swap q false p true x (λ e. other (sym e)))) ∙ over_clear g q (λ x. f (with_bit p true x)) rest)
 
-without-same : (g : List ℕ) (p q : ℕ) → (p == q) ≡ true → without (p ∷ g) q ≡ without g q
+pub without-same : (g : List ℕ) (p q : ℕ) → (p == q) ≡ true → without (p ∷ g) q ≡ without g q
 unfolding without
 without-same g p q e = ap (λ t. cond (not t) (p ∷ filter (λ n. not (n == q)) g) (filter (λ n. not (n == q)) g)) e
 
-without-other : (g : List ℕ) (p q : ℕ) → (p == q) ≡ false → without (p ∷ g) q ≡ p ∷ without g q
+pub without-other : (g : List ℕ) (p q : ℕ) → (p == q) ≡ false → without (p ∷ g) q ≡ p ∷ without g q
 unfolding without
 without-other g p q e = ap (λ t. cond (not t) (p ∷ filter (λ n. not (n == q)) g) (filter (λ n. not (n == q)) g)) e
 

@@ -1,8 +1,8 @@
 -- A register's value: distinct qubits and a coefficient for each row, and the vector that it stands for.
-use Rattle.std.specs.Prelude.{◌≡◌, ℕ, ◌^◌, true, false, cond, List, [], ◌∷◌, length, slice_index_or}
+use Rattle.std.specs.Prelude.{◌≡◌, ◌<◌, ℕ, ◌*◌, ◌^◌, Bool, true, false, cond, List, [], ◌∷◌, length, slice_index_or}
 use Rattle.state_model.specs.Coefficient.{Coefficient, negated}
 use Rattle.state_model.specs.CoefficientList.{at}
-use Rattle.state_model.specs.Row.{is_set, with_bit, turned, is_listed}
+use Rattle.state_model.specs.Row.{is_set, with_bit, turned, inserted, is_listed}
 use Rattle.state_model.specs.StateVector.{Vector}
 use Rattle.state_model.specs.Gate.{Matrix, entry}
 use Rattle.state_model.specs.declared.Two.{Two}
@@ -40,3 +40,8 @@ IsGateList m place old new = (row : ℕ) → at new row ≡ entry m (is_set plac
 abbrev pub IsTwoGateList : Two → ℕ → ℕ → List Coefficient → List Coefficient → Type 0
 IsTwoGateList Cnot one two old new = (row : ℕ) → at new row ≡ at old (cond (is_set one row) (turned two row) row)
 IsTwoGateList Cphase one two old new = (row : ℕ) → at new row ≡ cond (is_set one row) (cond (is_set two row) (negated (at old row)) (at old row)) (at old row)
+
+-- the second list has the rows of the first whose bit at a place has the value, without that bit and in their order
+pub record IsKeptList (place : ℕ) (bit : Bool) (old new : List Coefficient) : Type 0 where
+  pub rows : length old ≡ 2 * length new
+  pub list : (row : ℕ) → row < length new → at new row ≡ at old (inserted place bit row)

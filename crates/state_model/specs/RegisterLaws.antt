@@ -1,13 +1,13 @@
 -- The laws that join a register's list to the vector that it stands for, as statements.
-use Rattle.std.specs.Prelude.{ℕ, pos, ◌≡◌, ◌<◌, ◌^◌, List, length}
+use Rattle.std.specs.Prelude.{ℕ, pos, ◌≡◌, ◌<◌, ◌^◌, Bool, List, length}
 use Rattle.state_model.specs.Coefficient.{Coefficient}
 use Rattle.state_model.specs.CoefficientList.{IsScaled, IsProportional, IsNonzero, IsNormal, IsLeastSize, total_weight}
-use Rattle.state_model.specs.Row.{rows_of}
+use Rattle.state_model.specs.Row.{rows_of, without}
 use Rattle.state_model.specs.StateVector.{Vector, IsSameState, IsOver, IsSize, squares_over}
-use Rattle.state_model.specs.Measurement.{weight_of}
+use Rattle.state_model.specs.Measurement.{weight_of, keep}
 use Rattle.state_model.specs.Gate.{Matrix, gate, two_gate}
 use Rattle.state_model.specs.Registers.{register_vector}
-use Rattle.state_model.specs.Amplitudes.{Amplitudes, vector_of, qubit_at, AreDistinct, HasRows, IsGateList, IsTwoGateList}
+use Rattle.state_model.specs.Amplitudes.{Amplitudes, vector_of, qubit_at, AreDistinct, HasRows, IsGateList, IsTwoGateList, IsKeptList}
 use Rattle.state_model.specs.declared.Two.{Two}
 
 -- a list and a multiple of it stand for one state
@@ -38,6 +38,11 @@ GateListsAreGates = (a : Amplitudes) (m : Matrix) (place : ℕ) (list : List Coe
 abbrev pub TwoGateListsAreGates : Type 0
 TwoGateListsAreGates = (a : Amplitudes) (k : Two) (one two : ℕ) (list : List Coefficient) → HasRows a → one < length a.qubits → two < length a.qubits → IsTwoGateList k one two a.list list
     → (x : ℕ) → register_vector a.qubits list x ≡ two_gate k (qubit_at a one) (qubit_at a two) (vector_of a) x
+
+-- a list of the rows whose bit at a place has the value stands for what is kept of the vector
+abbrev pub KeptListsAreKept : Type 0
+KeptListsAreKept = (a : Amplitudes) (place : ℕ) (bit : Bool) (list : List Coefficient) → HasRows a → place < length a.qubits → IsKeptList place bit a.list list
+    → (x : ℕ) → register_vector (without a.qubits (qubit_at a place)) list x ≡ keep (qubit_at a place) bit (vector_of a) x
 
 -- the least size of a list is the size of its vector
 abbrev pub LeastSizesAreSizes : Type 0

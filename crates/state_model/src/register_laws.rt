@@ -1,5 +1,5 @@
 // The laws that join a register's list to the vector that it stands for, each the contract of a function that does nothing.
-ghost use Rattle.state_model.specs.RegisterLaws.{MultiplesAreSameStates, SameStatesAreProportional, VectorsHaveLists, RegistersHaveTotalWeights, RegistersHaveSquares, GateListsAreGates, TwoGateListsAreGates, LeastSizesAreSizes, NormalListsHaveSizes};
+ghost use Rattle.state_model.specs.RegisterLaws.{MultiplesAreSameStates, SameStatesAreProportional, VectorsHaveLists, RegistersHaveTotalWeights, RegistersHaveSquares, GateListsAreGates, TwoGateListsAreGates, KeptListsAreKept, LeastSizesAreSizes, NormalListsHaveSizes};
 
 /// A list and a multiple of it stand for one state.
 pub fn multiples_are_same_states()
@@ -34,6 +34,11 @@ pub fn gate_lists_are_gates()
 /// A list made row by row by a gate of two qubits stands for the gate's vector.
 pub fn two_gate_lists_are_gates()
     ensures { TwoGateListsAreGates }
+{}
+
+/// A list of the rows whose bit at a place has a value stands for what is kept of the vector.
+pub fn kept_lists_are_kept()
+    ensures { KeptListsAreKept }
 {}
 
 /// The least size of a list is the size of its vector.

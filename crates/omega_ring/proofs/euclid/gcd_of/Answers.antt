@@ -6,6 +6,7 @@ use Rattle.omega_ring.specs.Views.{omega_value, wide_value}
 use Rattle.state_model.proofs.Euclid.{divides_zero}
 use Rattle.omega_ring.specs.Range.{CoordinatesBelow}
 use Rattle.omega_ring.proofs.Sizes.{ready_small}
+use Rattle.omega_ring.proofs.Rounding.{within_up}
 use Rattle.omega_ring.proofs.Entries.{at_map, divides_more, divides_whole, greatest_more, zero_ready}
 use Rattle.omega_ring.proofs.euclid.gcd_of.Goals as goal
 
@@ -36,3 +37,6 @@ returns-clause-balanced c = subst (λ (t : Coefficient). IsBalanced (weight t)) 
 
 pub returns-clause-small : goal.returns-clause-small
 returns-clause-small c = subst (CoordinatesBelow (2 ^ 31)) (sym c.short.ensures) (let s = ready_small (wide_value c.loop-z.common) c.loop-z.invariant.ready in s.coordinates)
+
+pub short-requires : goal.short-requires
+short-requires c = let s = ready_small (wide_value c.loop-z.common) c.loop-z.invariant.ready in within_up (2 ^ 31) (2 ^ 36) (wide_value c.loop-z.common) s.coordinates (omega arith)

@@ -46,9 +46,7 @@ product-requires-clause-right c =
     subst (CoordinatesUpTo (2 ^ 94)) (sym c.conjugate.ensures) (within_weight (weight_value c.weight-w.result) (k.0) (k.1))
 
 pub product-numerator-requires-clause-left : goal.product-numerator-requires-clause-left
-product-numerator-requires-clause-left c =
-    let s : IsSmall (wide_value c.args.self) = ready_small (wide_value c.args.self) c.requires.left in
-    s.coordinates
+product-numerator-requires-clause-left c = c.requires.left
 
 pub product-numerator-requires-clause-right : goal.product-numerator-requires-clause-right
 product-numerator-requires-clause-right c =

@@ -31,3 +31,6 @@ pub returns-clause-small : goal.returns-clause-small
 returns-clause-small c =
     let e : wide_value c.sub.result ≡ wide_value c.args.self ⊖ wide_value c.quotient.result ⊗ wide_value c.args.u = c.sub.ensures ∙ ap (λ (t : Coefficient). wide_value c.args.self ⊖ t) c.mul.ensures in
     remainder_small (wide_value c.args.self) (wide_value c.args.u) (wide_value c.quotient.result) (wide_value c.sub.result) c.requires.right (norm_positive (wide_value c.args.u) c.requires.nonzero) c.quotient.ensures.nearest e
+
+pub quotient-requires-clause-left : goal.quotient-requires-clause-left
+quotient-requires-clause-left c = let s : IsSmall (wide_value c.args.self) = ready_small (wide_value c.args.self) c.requires.left in s.coordinates

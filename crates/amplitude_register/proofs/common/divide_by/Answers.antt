@@ -1,0 +1,23 @@
+use Rattle.std.proofs.Common.{◌≡◌, ◌^◌, ◌∙◌, sym, ap, subst, arith}
+use Rattle.amplitude_register.proofs.Loops.{partly_none, partly_more, over_whole}
+use Rattle.state_model.specs.Coefficient.{Coefficient, ◌⊗◌}
+use Rattle.state_model.specs.Divisors.{Divides}
+use Rattle.omega_ring.specs.Views.{omega_value}
+use Rattle.omega_ring.specs.Range.{CoordinatesBelow}
+use Rattle.amplitude_register.proofs.Entries.{at_map}
+use Rattle.amplitude_register.proofs.common.divide_by.Goals as goal
+
+pub div_exact-requires-clause-range : goal.div_exact-requires-clause-range
+div_exact-requires-clause-range c = let h = c.loop-z.invariant in subst (λ (t : Coefficient). CoordinatesBelow (2 ^ 31) t) (at_map c.args.list.now c.loop-z.z-index ∙ ap omega_value (sym (h.rest c.loop-z.z-index (omega arith)))) (c.requires.range c.loop-z.z-index)
+
+pub div_exact-requires-clause-divides : goal.div_exact-requires-clause-divides
+div_exact-requires-clause-divides c = let h = c.loop-z.invariant in subst (λ (t : Coefficient). Divides (omega_value c.args.u) t) (at_map c.args.list.now c.loop-z.z-index ∙ ap omega_value (sym (h.rest c.loop-z.z-index (omega arith)))) (c.requires.divides c.loop-z.z-index)
+
+pub loop-z-init : goal.loop-z-init
+loop-z-init c = partly_none (λ (x y : Coefficient). x ≡ y ⊗ omega_value c.args.u) c.args.list.now
+
+pub loop-z-preserved : goal.loop-z-preserved
+loop-z-preserved c = let h = c.loop-z.invariant in partly_more (λ (x y : Coefficient). x ≡ y ⊗ omega_value c.args.u) c.args.list.now c.loop-z.list c.loop-z.z-index c.div_exact.result (omega arith) c.loop-z.invariant (ap omega_value (sym (h.rest c.loop-z.z-index (omega arith))) ∙ c.div_exact.ensures)
+
+pub returns : goal.returns
+returns c = over_whole c.args.list.now c.loop-z.list c.loop-z.z-index (omega_value c.args.u) (omega arith) (omega arith) c.loop-z.invariant
