@@ -116,14 +116,14 @@ arrived_map-with_arrival n a app line =
     one false = refl
 
 -- the lines are told apart
-line_of_eq : (one two : Line) → line_eq one two ≡ true → one ≡ two
+pub line_of_eq : (one two : Line) → line_eq one two ≡ true → one ≡ two
 unfolding line_eq
 line_of_eq Sent Sent e = refl
 line_of_eq Sent Pair e = cc
 line_of_eq Pair Sent e = cc
 line_of_eq Pair Pair e = refl
 
-line_eq_of : (one two : Line) → one ≡ two → line_eq one two ≡ true
+pub line_eq_of : (one two : Line) → one ≡ two → line_eq one two ≡ true
 unfolding line_eq
 line_eq_of Sent Sent e = refl
 line_eq_of Sent Pair e = cc
@@ -131,7 +131,7 @@ line_eq_of Pair Sent e = cc
 line_eq_of Pair Pair e = refl
 
 -- one queue is not another
-apart_queues : (app : ℕ) (line : Line) (other : ℕ) (beside : Line) → ((other == app) && line_eq beside line) ≡ false → (a : Arrival) → is_waiting app line a ≡ true → is_waiting other beside a ≡ false
+pub apart_queues : (app : ℕ) (line : Line) (other : ℕ) (beside : Line) → ((other == app) && line_eq beside line) ≡ false → (a : Arrival) → is_waiting app line a ≡ true → is_waiting other beside a ≡ false
 apart_queues app line other beside apart a here = by (is_waiting other beside a) refl
   where
     by : (t : Bool) → is_waiting other beside a ≡ t → is_waiting other beside a ≡ false
