@@ -1,10 +1,12 @@
 -- Handles as a list: what adding and dropping do to the map from names to numbers.
 -- `added_distinct` and `dropped_distinct` keep that no name stands twice.
-use Rattle.std.proofs.Common.{◌≡◌, ℕ, ◌+◌, ◌≤◌, ◌==◌, Bool, true, false, not, cond, ◌&&◌, List, [], ◌∷◌, ◌++◌, None, Some, IsSome, is_some, ◌||◌, map, length, get_or, find, filter, count_by, option_map, position, remove, refl, sym, ap, subst, ◌∙◌, arith}
+use Rattle.std.proofs.Common.{◌≡◌, ℕ, ◌+◌, ◌≤◌, ◌==◌, Bool, true, false, not, cond, ◌&&◌, List, [], ◌∷◌, ◌++◌, Option, None, Some, IsSome, is_some, ◌||◌, map, length, get_or, find, filter, count_by, option_map, position, remove, refl, sym, ap, subst, ◌∙◌, arith}
 use Rattle.network_model.proofs.Counting.{count-cons, count-snoc, count-filter}
 use Rattle.state_model.proofs.Booleans.{clash, both_true, eq_of}
 use Rattle.std.proofs.lemmas.List.{length-map}
 use Rattle.state_model.specs.Row.{is_listed}
+use Rattle.network_model.specs.Step.{least_free}
+use Rattle.network_model.proofs.Least.{least_free_new}
 use Rattle.qubit_handles.proofs.Firsts.{removed_first, found_at, found_none, without_first_once}
 use Rattle.qubit_handles.specs.Handle.{is_named, number_of, ids_of, without_handle, AreDistinct}
 use Rattle.qubit_handles.specs.declared.handles.Handle.{Handle}
@@ -65,3 +67,11 @@ listed_held (h ∷ hs) app id = by (h.app == app) (h.id == id) refl (listed_held
 -- an application has as many ids as handles
 pub length-ids_of : (hs : List Handle) (app : ℕ) → length (ids_of hs app) ≡ length (filter (λ h. Handle.app h == app) hs)
 length-ids_of hs app = length-map (filter (λ h. Handle.app h == app) hs) (λ h. Handle.id h)
+
+-- nothing is held under the least free id
+pub least_is_free : (hs : List Handle) (app id : ℕ) → id ≡ least_free (ids_of hs app) → number_of hs app id ≡ None
+least_is_free hs app id e = none (number_of hs app id) (sym (listed_held hs app id) ∙ ap (is_listed (ids_of hs app)) e ∙ least_free_new (ids_of hs app))
+  where
+    none : (o : Option ℕ) → is_some o ≡ false → o ≡ None
+    none None f = refl
+    none (Some n) f = cc

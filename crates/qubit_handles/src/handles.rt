@@ -65,7 +65,8 @@ impl Handles {
 
     /// The least id under which the application holds nothing.
     pub fn least_id(&self, app: u16) -> u16
-        ensures { result ≡ least_free (ids_of self.now app) }
+        ensures least { result ≡ least_free (ids_of self.now app) }
+        ensures free { number_of self.now app result ≡ None }
     {
         let held = count_of(&self.list, app);
         let mut id = 0;
