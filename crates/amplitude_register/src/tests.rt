@@ -1,5 +1,6 @@
 //! Worked registers.
-use crate::Register;
+use crate::{Reduce, Register};
+use omega_ring::Omega;
 
 #[test]
 fn a_pair_has_two_equal_rows(rt: HostRuntime) {
@@ -23,4 +24,57 @@ fn a_pair_has_two_equal_rows(rt: HostRuntime) {
     assert_eq!(rt; reg.prepared(), None);
     reg.clear();
     assert_eq!(rt; reg.qubits().len(), 0);
+}
+
+#[test]
+fn whole_numbers_are_divided_out(rt: HostRuntime) {
+    let mut reg = Register::new(rt.alloc(), 1).expect(&rt, "memory");
+    let three = Omega {
+        a: 3,
+        b: 0,
+        c: 0,
+        d: 0,
+    };
+    let turned = Omega {
+        a: 0,
+        b: 3,
+        c: 0,
+        d: 0,
+    };
+    reg.begin(&[7]);
+    reg.put(0, three);
+    reg.put(1, turned);
+    let sealed = reg.seal(Reduce::Full);
+    assert!(rt; sealed.is_ok());
+    if sealed.is_ok() {
+        reg.flip();
+        assert_eq!(rt; reg.size(), 2);
+    }
+}
+
+#[test]
+fn a_factor_of_three_is_divided_out(rt: HostRuntime) {
+    // 3 is the second entry times its conjugate
+    let mut reg = Register::new(rt.alloc(), 1).expect(&rt, "memory");
+    let three = Omega {
+        a: 3,
+        b: 0,
+        c: 0,
+        d: 0,
+    };
+    let factor = Omega {
+        a: 1,
+        b: 1,
+        c: 0,
+        d: 1,
+    };
+    reg.begin(&[7]);
+    reg.put(0, three);
+    reg.put(1, factor);
+    let sealed = reg.seal(Reduce::Full);
+    assert!(rt; sealed.is_ok());
+    if sealed.is_ok() {
+        reg.flip();
+        assert_eq!(rt; reg.size(), 4);
+    }
 }

@@ -1,0 +1,4 @@
+pub mod Inserted
+pub mod Others
+pub mod Weighed
+pub mod Drafts

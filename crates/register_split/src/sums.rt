@@ -1,0 +1,68 @@
+//! The weights of a register's rows.
+ghost use Rattle.std.specs.Prelude.{◌≡◌, ◌<◌, ◌^◌, ◌<ℤ◌, pos, unsigned_abs, length};
+ghost use Rattle.state_model.specs.Coefficient.{weight, weight_sum};
+ghost use Rattle.state_model.specs.Measurement.{one_weight, whole_weight};
+ghost use Rattle.state_model.specs.Amplitudes.{vector_of, qubit_at};
+ghost use Rattle.omega_ring.specs.Views.{omega_value, weight_value};
+
+use crate::rows::{has_bit, row_count};
+use amplitude_register::Register;
+use omega_ring::{Omega, Weight};
+
+/// The weight of the rows with the bit 1, and that of all rows. Their quotient is the probability of a 1.
+#[derive(Clone, Copy, PartialEq, Eq, Debug, Drop)]
+pub struct Split {
+    pub one: Weight,
+    pub whole: Weight,
+}
+
+/// The weight of no row.
+const NONE: Weight = Weight { x: 0, y: 0 };
+
+/// The weight of the register's rows in which the bit at the place is 1, and of all its rows.
+pub fn weights(reg: &Register, place: u8) -> Split
+    requires { place < length reg.now.value.qubits }
+    ensures one { weight_value result.one ≡ one_weight reg.now.value.qubits (vector_of reg.now.value) (qubit_at reg.now.value place) }
+    ensures whole { weight_value result.whole ≡ whole_weight reg.now.value.qubits (vector_of reg.now.value) }
+    ensures one_x { unsigned_abs result.one.x < 2 ^ 60 }
+    ensures one_y { unsigned_abs result.one.y < 2 ^ 60 }
+    ensures whole_x { unsigned_abs result.whole.x < 2 ^ 60 }
+    ensures whole_y { unsigned_abs result.whole.y < 2 ^ 60 }
+{
+    reg.facts();
+    let mut one = NONE;
+    let mut whole = NONE;
+    for row in 0..row_count(reg) {
+        let z = reg.coefficient(row);
+        whole = added(whole, z);
+        if has_bit(row, place) {
+            one = added(one, z);
+        }
+    }
+    Split { one, whole }
+}
+
+/// The sum with a coefficient's weight.
+fn added(sum: Weight, z: Omega) -> Weight
+    requires x { unsigned_abs sum.x < 2 ^ 60 }
+    requires y { unsigned_abs sum.y < 2 ^ 60 }
+    requires small { (weight (omega_value z)).x <ℤ pos (2 ^ 60) }
+    ensures { weight_value result ≡ weight_sum (weight_value sum) (weight (omega_value z)) }
+{
+    let more = z.wide().weight();
+    plus(sum, more)
+}
+
+/// The sum of two weights.
+fn plus(one: Weight, two: Weight) -> Weight
+    requires one_x { unsigned_abs one.x < 2 ^ 60 }
+    requires one_y { unsigned_abs one.y < 2 ^ 60 }
+    requires two_x { unsigned_abs two.x < 2 ^ 60 }
+    requires two_y { unsigned_abs two.y < 2 ^ 60 }
+    ensures { weight_value result ≡ weight_sum (weight_value one) (weight_value two) }
+{
+    Weight {
+        x: one.x + two.x,
+        y: one.y + two.y,
+    }
+}
