@@ -168,7 +168,7 @@ one_weights a j rows l =
     one_filtered (vector_of a) q (rows_of a.qubits)
     ∙ weight_of-rows a.qubits (λ x. cond (is_set q x) (vector_of a x) zero_coefficient)
     ∙ weight_on-same a.qubits (λ x. weight (cond (is_set q x) (vector_of a x) zero_coefficient)) (λ x. weight (counted j a.list (register_row a.qubits x)))
-        (λ x is. ap (λ z. weight (cond (is_set q x) z zero_coefficient)) (vector-within a.qubits a.list x is) ∙ ap (λ c. weight (cond c (at a.list (register_row a.qubits x)) zero_coefficient)) (sym (register_bit a.qubits j q x (at_place a.qubits j l))))
+    (λ x is. ap (λ z. weight (cond (is_set q x) z zero_coefficient)) (vector-within a.qubits a.list x is) ∙ ap (λ c. weight (cond c (at a.list (register_row a.qubits x)) zero_coefficient)) (sym (register_bit a.qubits j q x (at_place a.qubits j l))))
     ∙ weight_on-register a.qubits rows.distinct (λ i. weight (counted j a.list i))
     ∙ ap (weight_to (λ i. weight (counted j a.list i))) (sym rows.rows)
 

@@ -19,7 +19,7 @@ quotient-requires-clause-nonzero c = λ e. c.requires.nonzero (sym c.wide-2.ensu
 pub returns : goal.returns
 returns c =
     let n : IsNearest (norm (omega_value c.args.u)) (numerator (omega_value c.args.self) (omega_value c.args.u)) (wide_value c.quotient.result) =
-        subst (λ (t : Coefficient). IsNearest (norm (omega_value c.args.u)) (numerator t (omega_value c.args.u)) (wide_value c.quotient.result)) c.wide.ensures
-        (subst (λ (t : Coefficient). IsNearest (norm t) (numerator (wide_value c.wide.result) t) (wide_value c.quotient.result)) c.wide-2.ensures c.quotient.ensures.nearest) in
+    subst (λ (t : Coefficient). IsNearest (norm (omega_value c.args.u)) (numerator t (omega_value c.args.u)) (wide_value c.quotient.result)) c.wide.ensures
+    (subst (λ (t : Coefficient). IsNearest (norm t) (numerator (wide_value c.wide.result) t) (wide_value c.quotient.result)) c.wide-2.ensures c.quotient.ensures.nearest) in
     exact_quotient (omega_value c.args.self) (omega_value c.args.u) (wide_value c.quotient.result) c.requires.nonzero n c.requires.divides
     ∙ ap (λ (t : Coefficient). t ⊗ omega_value c.args.u) (sym c.short.ensures)
