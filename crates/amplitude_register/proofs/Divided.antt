@@ -136,8 +136,8 @@ quotient_below w v b h k s =
     let four : Term → Term = λ z. plus (three z) z in
     let e : (w.x +ℤ (w.y +ℤ w.y)) *ℤ (v.x +ℤ v.x +ℤ v.x +ℤ (v.y +ℤ v.y +ℤ v.y +ℤ v.y)) +ℤ (w.x -ℤ (w.y +ℤ w.y)) *ℤ (v.x +ℤ v.x +ℤ v.x -ℤ (v.y +ℤ v.y +ℤ v.y +ℤ v.y)) +ℤ pos 2 *ℤ ((w.x -ℤ pos 1) *ℤ v.x) ≡ pos 2 *ℤ (pos 4 *ℤ (weight_product v w).x -ℤ v.x) =
     equal (w.x ∷ w.y ∷ v.x ∷ v.y ∷ [])
-        (plus (plus (times (plus x (plus y y)) (plus (three u) (four t))) (times (less x (plus y y)) (less (three u) (four t)))) (times (number (pos 2)) (times (less x (number (pos 1))) u)))
-        (times (number (pos 2)) (less (times (number (pos 4)) ((mul_pair (pair 2) (pair 0)).x)) u)) refl in
+    (plus (plus (times (plus x (plus y y)) (plus (three u) (four t))) (times (less x (plus y y)) (less (three u) (four t)))) (times (number (pos 2)) (times (less x (number (pos 1))) u)))
+    (times (number (pos 2)) (less (times (number (pos 4)) ((mul_pair (pair 2) (pair 0)).x)) u)) refl in
     let f = doubled (pos 4 *ℤ (weight_product v w).x -ℤ v.x) in
     let g = doubled ((w.x -ℤ pos 1) *ℤ v.x) in
     omega (arith, order)

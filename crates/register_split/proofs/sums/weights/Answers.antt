@@ -33,8 +33,9 @@ loop-row-preserved c =
     let list = c.args.reg.now.value.list in
     record {
       one = elim c.if-has_bit.branch [
-        then-has_bit w ↦ ap weight_value w.one-is ∙ one_counts c.args.place list c.loop-row.row (omega_value c.coefficient-z.result) (weight_value c.loop-row.one) (weight_value w.added-one.result) (sym c.has_bit.ensures ∙ w.if-has_bit.true) c.loop-row.invariant.one c.coefficient-z.ensures w.added-one.ensures
-        | else-has_bit w ↦ ap weight_value w.one-is ∙ one_skips c.args.place list c.loop-row.row (weight_value c.loop-row.one) (sym c.has_bit.ensures ∙ w.if-has_bit.false) c.loop-row.invariant.one ];
+        | then-has_bit w ↦ ap weight_value w.one-is ∙ one_counts c.args.place list c.loop-row.row (omega_value c.coefficient-z.result) (weight_value c.loop-row.one) (weight_value w.added-one.result) (sym c.has_bit.ensures ∙ w.if-has_bit.true) c.loop-row.invariant.one c.coefficient-z.ensures w.added-one.ensures
+        | else-has_bit w ↦ ap weight_value w.one-is ∙ one_skips c.args.place list c.loop-row.row (weight_value c.loop-row.one) (sym c.has_bit.ensures ∙ w.if-has_bit.false) c.loop-row.invariant.one
+      ];
       whole = whole_more list c.loop-row.row (omega_value c.coefficient-z.result) (weight_value c.loop-row.whole) (weight_value c.added-whole.result) c.loop-row.invariant.whole c.coefficient-z.ensures c.added-whole.ensures;
     }
 
