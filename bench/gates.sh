@@ -1,7 +1,7 @@
 #!/bin/sh
-# Times a Hadamard and a turn by an eighth on a dense register of 12 qubits, ours against libquantum's, in turn in
-# one run, and prints microseconds of processor time for the pair
-# and the ratio. libquantum runs on one thread, as ours does.
+# Times gates on a dense register of 12 qubits, ours against libquantum's, in turn in one run, and prints
+# microseconds of processor time and the ratio: for a Hadamard and a turn by an eighth, and for a CNOT.
+# libquantum runs on one thread, as ours does.
 set -eu
 root=$(cd "$(dirname "$0")/.." && pwd)
 room=$(mktemp -d)
@@ -19,20 +19,21 @@ import os, subprocess, sys
 
 room = sys.argv[1]
 
-def seconds(program, arguments):
+def seconds(program, words):
     """The processor time of a run."""
-    child = subprocess.Popen([f"{room}/{program}"] + ["x"] * arguments, stdout=subprocess.DEVNULL)
+    child = subprocess.Popen([f"{room}/{program}"] + words, stdout=subprocess.DEVNULL)
     _, status, usage = os.wait4(child.pid, 0)
     assert status == 0
     return usage.ru_utime + usage.ru_stime
 
-def pair(program):
-    """Microseconds for a pair: 10 arguments are 5,000 rounds of two pairs more than none."""
-    return (seconds(program, 10) - seconds(program, 0)) * 1e6 / 10_000
+def each(program, word):
+    """Microseconds for one: 10 words are 10,000 more than none."""
+    return (seconds(program, [word] * 10) - seconds(program, [])) * 1e6 / 10_000
 
-runs = [(pair("ours"), pair("theirs")) for _ in range(9)]
-for ours, theirs in runs:
-    print(f"ours {ours:6.1f} us   libquantum {theirs:6.1f} us   ratio {ours / theirs:.2f}")
-ratios = sorted(ours / theirs for ours, theirs in runs)
-print(f"median ratio {ratios[len(ratios) // 2]:.2f}")
+for name, word in ("Hadamard and turn", "pairs"), ("CNOT", "nots"):
+    runs = [(each("ours", word), each("theirs", word)) for _ in range(9)]
+    for ours, theirs in runs:
+        print(f"{name}: ours {ours:6.1f} us   libquantum {theirs:6.1f} us   ratio {ours / theirs:.2f}")
+    ratios = sorted(ours / theirs for ours, theirs in runs)
+    print(f"{name}: median ratio {ratios[len(ratios) // 2]:.2f}")
 PYTHON

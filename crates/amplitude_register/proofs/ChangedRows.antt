@@ -32,7 +32,7 @@ cancel_weight u v t e =
     let fy : u.y +ℤ t.y ≡ v.y +ℤ t.y = ap (λ (w : Weight). w.y) e in
     same_weight u v (omega (arith, ints)) (omega (arith, ints))
 
-negated_weight : (z : Coefficient) → weight (negated z) ≡ weight z
+pub negated_weight : (z : Coefficient) → weight (negated z) ≡ weight z
 negated_weight z =
     let t = quad 0 in
     equal_pairs (coordinates z []) (weight_quad record { a = minus t.a; b = minus t.b; c = minus t.c; d = minus t.d }) (weight_quad t) refl refl
@@ -42,7 +42,7 @@ negated_times q u =
     let s = quad 0 in let t = quad 4 in let p = mul_quad s t in
     equal_quads (coordinates q (coordinates u [])) record { a = minus p.a; b = minus p.b; c = minus p.c; d = minus p.d } (mul_quad record { a = minus s.a; b = minus s.b; c = minus s.c; d = minus s.d } t) refl refl refl refl
 
-twice_negated : (z : Coefficient) → z ≡ negated (negated z)
+pub twice_negated : (z : Coefficient) → z ≡ negated (negated z)
 twice_negated z =
     let t = quad 0 in
     equal_quads (coordinates z []) t record { a = minus (minus t.a); b = minus (minus t.b); c = minus (minus t.c); d = minus (minus t.d) } refl refl refl refl
@@ -54,7 +54,7 @@ negated_row cs i = slice_set cs i (negated (at cs i))
 pub negated_total : (cs : List Coefficient) (i : ℕ) → i < length cs → total_weight (negated_row cs i) ≡ total_weight cs
 negated_total cs i h = cancel_weight _ (total_weight cs) (weight (at cs i)) (weight_exchange cs i (negated (at cs i)) h ∙ ap (weight_sum (total_weight cs)) (negated_weight (at cs i)))
 
-divides_negated : (u z : Coefficient) → Divides u (negated z) → Divides u z
+pub divides_negated : (u z : Coefficient) → Divides u (negated z) → Divides u z
 divides_negated u z d = (negated (d.0), twice_negated z ∙ ap negated (d.1) ∙ negated_times (d.0) u)
 
 negated_reduced : (cs : List Coefficient) (i : ℕ) → i < length cs → IsReduced cs → IsReduced (negated_row cs i)
@@ -107,7 +107,7 @@ swapped_reduced cs i j h k r u d = r u each
         (cases_eq n i)
 
 -- a list with the same weight and no new divisor is kept as the first
-same_kept : (a b : Amplitudes) → total_weight b.list ≡ total_weight a.list → (IsReduced a.list → IsReduced b.list) → IsKept a → IsKept b
+pub same_kept : (a b : Amplitudes) → total_weight b.list ≡ total_weight a.list → (IsReduced a.list → IsReduced b.list) → IsKept a → IsKept b
 same_kept a b e reduced k =
     let n = k.normal in
     record { normal = record { reduced = reduced n.reduced; balanced = subst IsBalanced (sym e) n.balanced }; small = subst (λ (t : Weight). t.x <ℤ pos (2 ^ 60)) (sym e) k.small }

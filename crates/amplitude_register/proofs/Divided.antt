@@ -1,15 +1,14 @@
 -- Lists over a common divisor: their sums of squares stay small, and over a greatest one they are reduced.
-use Rattle.std.proofs.Common.{◌≡◌, ◌≢◌, ℕ, ◌*◌, ◌<◌, ◌^◌, ℤ, pos, ◌+ℤ◌, ◌-ℤ◌, ◌*ℤ◌, neg_ℤ, ◌≤ℤ◌, ◌<ℤ◌, unsigned_abs, List, [], ◌∷◌, refl, sym, ap, subst, ◌∙◌, arith}
+use Rattle.std.proofs.Common.{◌≡◌, ◌≢◌, ℕ, ◌*◌, ◌<◌, ◌^◌, ℤ, pos, ◌+ℤ◌, ◌-ℤ◌, ◌*ℤ◌, neg_ℤ, ◌≤ℤ◌, ◌<ℤ◌, unsigned_abs, List, [], ◌∷◌, refl, ap, subst, ◌∙◌, arith}
 use Rattle.std.proofs.lemmas.Int.{by_lt_z, ints}
 use Rattle.std.proofs.lemmas.Nat.{mul-lt}
-use Rattle.state_model.specs.Coefficient.{Coefficient, zero_coefficient, one_coefficient, ◌⊗◌, Weight, weight, no_weight, weight_sum}
+use Rattle.state_model.specs.Coefficient.{Coefficient, zero_coefficient, one_coefficient, ◌⊗◌, Weight, weight, weight_sum}
 use Rattle.state_model.specs.Divisors.{Divides, IsBalanced, weight_product, norm}
-use Rattle.state_model.specs.CoefficientList.{at, DividesAll, IsNonzero, IsReduced, IsScaled, total_weight}
+use Rattle.state_model.specs.CoefficientList.{at, DividesAll, IsNonzero, total_weight}
 use Rattle.state_model.proofs.Domain.{⊗-zero_coefficient, zero_coefficient-⊗, square_abs}
 use Rattle.state_model.proofs.Euclid.{divides_trans}
 use Rattle.state_model.proofs.Expressions.{pair, mul_pair}
-use Rattle.state_model.proofs.Inequalities.{order, doubled, fourfold, square_not_negative, product_not_negative, product_positive, product_monotone}
-use Rattle.state_model.proofs.Integers.{mul_comm_ℤ}
+use Rattle.state_model.proofs.Inequalities.{order, doubled, fourfold, square_not_negative, product_not_negative, product_positive}
 use Rattle.state_model.proofs.Norms.{norm-⊗, norm_positive, norm_not_negative, weight_below, weight_above}
 use Rattle.state_model.proofs.Polynomial.{Term, var, number, plus, times, less, square, minus, equal}
 use Rattle.state_model.proofs.Reduced.{unit_of_norm}

@@ -222,6 +222,11 @@ set_basis_is o l v x qs ps cs ds e p q =
     let P : RegisterState → Type 0 = λ t. state l record { qubits = qs; list = cs } x ≡ state t.limit record { qubits = ps; list = ds } t.next in
     subst P e (ap (λ (t : List ℕ). state l record { qubits = t; list = cs } x) p ∙ ap (λ (t : List Coefficient). state l record { qubits = ps; list = t } x) q)
 
+pub next_prepared : (o : RegisterState) (l : ℕ) (v : Amplitudes) (x : Next) (qs ps : List ℕ) (cs ds : List Coefficient) → state l v x ≡ o → qs ≡ ps → cs ≡ ds → state l v (prepared record { qubits = qs; list = cs }) ≡ state o.limit o.value (prepared record { qubits = ps; list = ds })
+next_prepared o l v x qs ps cs ds e p q =
+    let P : RegisterState → Type 0 = λ t. state l v (prepared record { qubits = qs; list = cs }) ≡ state t.limit t.value (prepared record { qubits = ps; list = ds }) in
+    subst P e (ap (λ (t : List ℕ). state l v (prepared record { qubits = t; list = cs })) p ∙ ap (λ (t : List Coefficient). state l v (prepared record { qubits = ps; list = t })) q)
+
 pub take_one : (xs : List ℕ) (q : ℕ) → length xs ≡ 12 → take 1 (slice_set xs 0 q) ≡ q ∷ []
 take_one [] q h = absurd (omega arith)
 take_one (x ∷ xs) q h = refl

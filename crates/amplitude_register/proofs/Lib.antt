@@ -11,4 +11,7 @@ pub mod Fields
 pub mod SealedDrafts
 pub mod RowPairs
 pub mod ChangedRows
+pub mod TwoGates
 pub mod PreparedRows
+pub mod Written
+pub mod FromValues

@@ -1,18 +1,20 @@
 -- Rows of a prepared value that are exchanged or negated, in the fields and in what contracts see.
-use Rattle.std.proofs.Common.{◌≡◌, ℕ, ◌<◌, List, length, map, take, get_or, slice_set, refl, sym, ap, subst, ◌∙◌}
+use Rattle.std.proofs.Common.{◌≡◌, ◌≢◌, ℕ, ◌<◌, ◌≤◌, arith, List, length, map, take, get_or, slice_set, refl, sym, ap, subst, ◌∙◌}
 use Rattle.state_model.specs.Coefficient.{Coefficient, negated}
 use Rattle.state_model.specs.CoefficientList.{at, total_weight}
-use Rattle.state_model.specs.Amplitudes.{Amplitudes}
+use Rattle.state_model.specs.Amplitudes.{Amplitudes, IsTwoGateList}
+use Rattle.state_model.specs.declared.Two.{Two}
 use Rattle.omega_ring.specs.Views.{omega_value, weight_value}
 use Rattle.omega_ring.specs.declared.coefficients.Omega.{Omega}
-use Rattle.amplitude_register.specs.States.{RegisterState, prepared, IsPrepared, IsKept, next_value, with_row}
-use Rattle.amplitude_register.specs.Held.{IsStage, next_of, amplitudes_of}
+use Rattle.amplitude_register.specs.States.{RegisterState, Next, empty, draft, prepared, IsPrepared, IsPresent, IsKept, IsTwoGateStep, next_value, with_row}
+use Rattle.amplitude_register.specs.Held.{IsBlock, IsStage, next_of, amplitudes_of}
 use Rattle.amplitude_register.specs.declared.block.Block.{Block}
 use Rattle.amplitude_register.specs.declared.block.Stage.{Stage}
 use Rattle.amplitude_register.specs.declared.block.Stage.TheVariants.{Empty, Open, Weighed, Prepared}
 use Rattle.amplitude_register.proofs.Entries.{zero_omega}
-use Rattle.amplitude_register.proofs.Fields.{state, front, ready_state, ready_value, front_set, front_row, below_front, list_of}
-use Rattle.amplitude_register.proofs.ChangedRows.{negated_row, swapped_rows, negated_total, swapped_total, negated_kept, swapped_kept}
+use Rattle.amplitude_register.proofs.Fields.{place_below, state, front, ready_state, ready_value, front_set, front_row, below_front, list_of}
+use Rattle.amplitude_register.proofs.ChangedRows.{negated_row, swapped_rows, negated_total, swapped_total, negated_kept, swapped_kept, same_kept}
+use Rattle.amplitude_register.proofs.TwoGates.{two_reduced}
 
 pub prepared_stage : (o : RegisterState) (l : ℕ) (v : Amplitudes) (s : Stage) (a : Amplitudes) → state l v (next_of s a) ≡ o → IsPrepared o.next → s ≡ Prepared
 prepared_stage o l v s a e h = by s (subst (λ (t : RegisterState). IsPrepared t.next) (sym e) h)
@@ -71,3 +73,32 @@ swapped_stage s b c i j y z e w r x h l f g k =
     let q : list_of c ≡ swapped_rows (list_of b) i j = ap (λ (n : ℕ). map omega_value (take n c.entries.items)) r ∙ ap (λ (t : List Omega). map omega_value (take b.rows t)) x ∙ swapped_front b.entries.items b.rows i j y z h l f g in
     changed_stage s b c e w (ap total_weight q ∙ swapped_total (list_of b) i j h l)
     (λ m. subst (λ (t : List Coefficient). IsKept record { qubits = take c.count c.qubits; list = t }) (sym q) (swapped_kept (take b.count b.qubits) (take c.count c.qubits) (list_of b) i j h l m)) k
+
+-- ---- gates of two qubits
+pub ready_present : (x : Next) → IsPrepared x → IsPresent x
+ready_present (prepared a) h = tt
+ready_present empty h = absurd h
+ready_present (draft a) h = absurd h
+
+-- a place of the prepared value is one of the block
+pub ready_place : (o : RegisterState) (l : ℕ) (v : Amplitudes) (s : Stage) (b : Block) (place : ℕ) → l ≤ 12 → IsBlock l b → state l v (next_of s (amplitudes_of b)) ≡ o → IsPrepared o.next → place < length (next_value o.next).qubits → place < b.count
+ready_place o l v s b place m h e p k = place_below o l v s b place m h e (ready_present o.next p) k
+
+pub ready_low : (o : RegisterState) (l : ℕ) (v : Amplitudes) (s : Stage) (b : Block) (place : ℕ) → l ≤ 12 → IsBlock l b → state l v (next_of s (amplitudes_of b)) ≡ o → IsPrepared o.next → place < length (next_value o.next).qubits → place < 12
+ready_low o l v s b place m h e p k = let q = ready_place o l v s b place m h e p k in let c = h.count in omega (arith, q, c, m)
+
+-- what a gate of two qubits on the rows of the second block makes of the register
+pub two_step : (k : Two) (i j : ℕ) (o : RegisterState) (l : ℕ) (v : Amplitudes) (s : Stage) (qs : List ℕ) (xs ys : List Coefficient) → state l v (next_of s record { qubits = qs; list = xs }) ≡ o → IsPrepared o.next
+    → IsTwoGateList k i j xs ys → total_weight ys ≡ total_weight xs → IsTwoGateStep k i j o (state l v (next_of s record { qubits = qs; list = ys }))
+two_step k i j o l v s qs xs ys e h list weight =
+    subst (λ (t : RegisterState). IsTwoGateStep k i j t (state l v (next_of s record { qubits = qs; list = ys }))) e
+    (by s (subst (λ (t : RegisterState). IsPrepared t.next) (sym e) h))
+  where
+    by : (s : Stage) → IsPrepared (next_of s record { qubits = qs; list = xs }) → IsTwoGateStep k i j (state l v (next_of s record { qubits = qs; list = xs })) (state l v (next_of s record { qubits = qs; list = ys }))
+    by Prepared h = record { after = refl; list = list; weight = weight }
+    by Open h = absurd h
+    by Weighed h = absurd h
+    by Empty h = absurd h
+
+pub two_stage : (k : Two) (i j : ℕ) (s : Stage) (b c : Block) → i ≢ j → s ≡ Prepared → c.weight ≡ b.weight → IsTwoGateList k i j (list_of b) (list_of c) → total_weight (list_of c) ≡ total_weight (list_of b) → IsStage s b → IsStage s c
+two_stage k i j s b c apart e w list weight h = changed_stage s b c e w weight (same_kept (amplitudes_of b) (amplitudes_of c) weight (two_reduced k i j (list_of b) (list_of c) apart list)) h

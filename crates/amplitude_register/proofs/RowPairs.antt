@@ -34,12 +34,15 @@ pub set_test : (q x : ℕ) → (x / 2 ^ q % 2 == 1) ≡ is_set q x
 unfolding is_set
 set_test q x = ap (λ n. n == 1) (sym (bit_is q x))
 
-pub high_test : (q x : ℕ) → q < 12 → bit_or x (1 * 2 ^ q % 2 ^ 64) ≡ with_bit q true x
-unfolding with_bit
-high_test q x l = let h : q ≤ 11 = omega arith in let p : 2 ^ q ≤ 2 ^ 11 = pow-le-pow_right {n = 2} (omega arith) h in ap (bit_or x) (small (2 ^ q) (omega (arith, p)))
+pub power_small : (q : ℕ) → q < 12 → 1 * 2 ^ q % 2 ^ 64 ≡ 2 ^ q
+power_small q l = let h : q ≤ 11 = omega arith in let p : 2 ^ q ≤ 2 ^ 11 = pow-le-pow_right {n = 2} (omega arith) h in small (2 ^ q) (omega (arith, p))
   where
     small : (n : ℕ) → n < 2 ^ 12 → 1 * n % 2 ^ 64 ≡ n
     small n h = omega arith
+
+pub high_test : (q x : ℕ) → q < 12 → bit_or x (1 * 2 ^ q % 2 ^ 64) ≡ with_bit q true x
+unfolding with_bit
+high_test q x l = ap (bit_or x) (power_small q l)
 
 -- ---- rows below a power of 2
 pub with_bit-below : (n j : ℕ) (b : Bool) (r : ℕ) → j < n → r < 2 ^ n → with_bit j b r < 2 ^ n
@@ -64,7 +67,7 @@ pub pair_inside : (place rows row : ℕ) (b : Bool) → HasPlace place rows → 
 pair_inside place rows row b h l = subst (λ (t : ℕ). with_bit place b row < t) (sym h.count) (with_bit-below h.qubits place b row h.inside (subst (λ (t : ℕ). row < t) h.count l))
 
 -- and a row past the end has its partner past the end
-pair_outside : (place rows row : ℕ) (b : Bool) → HasPlace place rows → rows ≤ row → rows ≤ with_bit place b row
+pub pair_outside : (place rows row : ℕ) (b : Bool) → HasPlace place rows → rows ≤ row → rows ≤ with_bit place b row
 pair_outside place rows row b h l = ⊎_elim
     (λ (p : with_bit place b row < rows). let k = pair_inside place rows (with_bit place b row) (is_set place row) h p in absurd (let e = with_bit_again place (is_set place row) b row ∙ with_own_bit place row in omega (arith, e)))
     (λ (p : rows ≤ with_bit place b row). p)
@@ -75,10 +78,10 @@ pub low_of : (place row : ℕ) → is_set place row ≡ false → with_bit place
 low_of place row e = ap (λ b. with_bit place b row) (sym e) ∙ with_own_bit place row
 
 -- the low row of the high one
-low_of_high : (place row : ℕ) → is_set place row ≡ false → with_bit place false (with_bit place true row) ≡ row
+pub low_of_high : (place row : ℕ) → is_set place row ≡ false → with_bit place false (with_bit place true row) ≡ row
 low_of_high place row e = with_bit_again place false true row ∙ low_of place row e
 
-high_other : (place row : ℕ) → is_set place row ≡ false → with_bit place true row ≢ row
+pub high_other : (place row : ℕ) → is_set place row ≡ false → with_bit place true row ≢ row
 high_other place row e is = clash (sym (is_set-with_bit_same place true row) ∙ ap (is_set place) is ∙ e)
 
 -- ---- lists

@@ -1,16 +1,15 @@
 -- A draft that was divided, and then sealed.
-use Rattle.std.proofs.Common.{◌≡◌, ◌≢◌, ℕ, ◌^◌, ℤ, pos, ◌≤ℤ◌, ◌<ℤ◌, List, length, map, take, Result, Ok, Err, MatchResult, refl, sym, ap, subst, ◌∙◌, arith}
+use Rattle.std.proofs.Common.{◌≡◌, ℕ, ◌^◌, ℤ, pos, ◌≤ℤ◌, ◌<ℤ◌, List, length, Result, Ok, Err, MatchResult, sym, ap, subst, ◌∙◌, arith}
 use Rattle.state_model.specs.Coefficient.{Coefficient, one_coefficient, ◌⊗◌}
-use Rattle.state_model.specs.Divisors.{Divides, IsDeltaPower}
 use Rattle.state_model.specs.CoefficientList.{at, IsReduced, IsScaled, IsProportional, IsNonzero, IsLeastSize, HasDeltaDivisors, total_weight}
 use Rattle.state_model.specs.StateVector.{IsSameState}
 use Rattle.state_model.specs.Amplitudes.{Amplitudes, vector_of}
 use Rattle.state_model.proofs.Euclid.{one-⊗}
 use Rattle.state_model.proofs.Inequalities.{order}
-use Rattle.state_model.proofs.RegisterLists.{scaled_same, reduced_nonzero}
+use Rattle.state_model.proofs.RegisterLists.{scaled_same}
 use Rattle.state_model.proofs.RegisterSizes.{scaled_trans}
 use Rattle.state_model.proofs.Ring.{⊗_comm, ⊗_assoc}
-use Rattle.amplitude_register.specs.States.{Next, empty, draft, prepared, RegisterState, IsDraft, next_value, IsSealed, IsRefused, CanReduce}
+use Rattle.amplitude_register.specs.States.{draft, prepared, RegisterState, IsDraft, next_value, IsSealed, IsRefused, CanReduce}
 use Rattle.amplitude_register.specs.Held.{next_of}
 use Rattle.amplitude_register.specs.Multiples.{IsReducedFrom}
 use Rattle.amplitude_register.specs.declared.block.Stage.{Stage}

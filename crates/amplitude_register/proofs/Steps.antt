@@ -1,22 +1,23 @@
 -- One step of a division by a common divisor or of a product with a unit.
-use Rattle.std.proofs.Common.{◌≡◌, ◌≢◌, ◌*◌, ◌<◌, ◌^◌, ℤ, pos, ◌+ℤ◌, ◌-ℤ◌, ◌*ℤ◌, neg_ℤ, ◌≤ℤ◌, ◌<ℤ◌, unsigned_abs, List, [], ◌∷◌, refl, sym, ap, subst, ◌∙◌, arith}
+use Rattle.std.proofs.Common.{◌≡◌, ◌≢◌, ℕ, ◌≤◌, ◌*◌, ◌<◌, ◌^◌, ℤ, pos, ◌+ℤ◌, ◌-ℤ◌, ◌*ℤ◌, neg_ℤ, ◌≤ℤ◌, ◌<ℤ◌, unsigned_abs, List, [], ◌∷◌, refl, sym, ap, subst, ◌∙◌, arith}
 use Rattle.std.proofs.lemmas.Int.{ints, unsigned_abs-mul}
-use Rattle.amplitude_register.proofs.Products.{lower_pair_is, upper_pair_is}
+use native.Mathlib.Nat.{mul-le-mul}
+use Rattle.amplitude_register.proofs.Products.{lower_pair_is, upper_pair_is, both_is, both_pair_is}
 use Rattle.amplitude_register.proofs.Sums.{IsReal, real_sum, entry_below}
 use Rattle.state_model.specs.Coefficient.{Coefficient, zero_coefficient, ◌⊗◌, Weight, weight}
-use Rattle.state_model.specs.Divisors.{weight_product, weight_norm, delta, unit_up, unit_down, IsBalanced}
+use Rattle.state_model.specs.Divisors.{Divides, weight_product, weight_norm, delta, unit_up, unit_down, IsBalanced}
 use Rattle.state_model.specs.CoefficientList.{at, DividesAll, IsScaled, IsNonzero, IsNormal, HasDeltaDivisors, total_weight}
 use Rattle.state_model.specs.Quotients.{IsEven}
 use Rattle.state_model.proofs.Polynomial.{number, plus, minus, less}
 use Rattle.state_model.proofs.Expressions.{quad, pair, mul_quad, mul_pair, equal_quads, equal_pairs, coordinates, same_weight}
-use Rattle.state_model.proofs.Ring.{⊗_comm, ⊗_assoc}
+use Rattle.state_model.proofs.Ring.{⊗_comm, ⊗_assoc, same_coordinates}
 use Rattle.state_model.proofs.Domain.{zero_coefficient-⊗}
 use Rattle.state_model.proofs.Norms.{weight_norm-product, weight_below, weight_above, weight_norm_zero}
 use Rattle.state_model.proofs.Inequalities.{order}
 use Rattle.state_model.proofs.Least.{multiple_weight}
 use Rattle.state_model.proofs.Reduction.{delta_free_reduced}
 use Rattle.state_model.proofs.RegisterSizes.{scaled_trans}
-use Rattle.amplitude_register.specs.Multiples.{delta_conjugate, AreTimes}
+use Rattle.amplitude_register.specs.Multiples.{delta_conjugate, both_deltas, AreTimes}
 
 -- ---- multiples
 pub delta_nonzero : delta ≢ zero_coefficient
@@ -24,6 +25,26 @@ delta_nonzero e = let f : pos 1 ≡ pos 0 = ap (λ (z : Coefficient). z.a) e in 
 
 pub conjugate_nonzero : delta_conjugate ≢ zero_coefficient
 conjugate_nonzero e = let f : pos 1 ≡ pos 0 = ap (λ (z : Coefficient). z.a) e in cc f
+
+pub both_nonzero : both_deltas ≢ zero_coefficient
+both_nonzero e = let f : pos 1 ≡ pos 0 = ap (λ (z : Coefficient). z.a) e in cc f
+
+-- where 1 - w^2 divides, the coordinates in turn agree in parity
+pub both_even : (z : Coefficient) → Divides both_deltas z → IsEven (z.a -ℤ z.c) × IsEven (z.b -ℤ z.d)
+both_even z d =
+    let q = d.0 in let e = d.1 ∙ both_is q in
+    ((q.a, twice z.a z.c q.a q.c (ap (λ (t : Coefficient). t.a) e) (ap (λ (t : Coefficient). t.c) e)), (q.b, twice z.b z.d q.b q.d (ap (λ (t : Coefficient). t.b) e) (ap (λ (t : Coefficient). t.d) e)))
+  where
+    twice : (x y p r : ℤ) → x ≡ p +ℤ r → y ≡ r -ℤ p → x -ℤ y ≡ p +ℤ p
+    twice x y p r e f = omega (arith, order)
+
+pub even_both : (z : Coefficient) → IsEven (z.a -ℤ z.c) → IsEven (z.b -ℤ z.d) → Divides both_deltas z
+even_both z h k =
+    let q : Coefficient = record { a = h.0; b = k.0; c = z.a -ℤ h.0; d = z.b -ℤ k.0 } in
+    (q, at z (h.0) (k.0) (h.1) (k.1) ∙ sym (both_is q))
+  where
+    at : (z : Coefficient) (h k : ℤ) → z.a -ℤ z.c ≡ h +ℤ h → z.b -ℤ z.d ≡ k +ℤ k → z ≡ record { a = h +ℤ (z.a -ℤ h); b = k +ℤ (z.b -ℤ k); c = (z.a -ℤ h) -ℤ h; d = (z.b -ℤ k) -ℤ k }
+    at z h k e f = same_coordinates z _ (omega (arith, order)) (omega (arith, order)) (omega (arith, order)) (omega (arith, order))
 
 pub up_nonzero : unit_up ≢ zero_coefficient
 up_nonzero e = let f : pos 1 ≡ pos 0 = ap (λ (z : Coefficient). z.a) e in cc f
@@ -52,13 +73,16 @@ x_positive vs h =
 pub times_nonzero : (vs us : List Coefficient) (u : Coefficient) → AreTimes vs us u → IsNonzero vs → IsNonzero us
 times_nonzero vs us u h n = (n.0, λ e. n.1 (h.value (n.0) ∙ ap (λ (t : Coefficient). t ⊗ u) e ∙ zero_coefficient-⊗ u))
 
--- the norm falls to its half
-pub norm_halves : (w v u : Weight) → w ≡ weight_product v u → weight_norm u ≡ pos 2 → pos 0 <ℤ v.x → unsigned_abs (weight_norm v) < unsigned_abs (weight_norm w)
-norm_halves w v u e f h =
-    let g : unsigned_abs (weight_norm w) ≡ unsigned_abs (weight_norm v) * 2 = ap (λ (t : Weight). unsigned_abs (weight_norm t)) e ∙ ap unsigned_abs (weight_norm-product v u ∙ ap (λ (t : ℤ). weight_norm v *ℤ t) f) ∙ unsigned_abs-mul (weight_norm v) (pos 2) in
+-- the norm falls, to its half or to a quarter
+pub norm_falls : (w v u : Weight) (m : ℕ) → w ≡ weight_product v u → weight_norm u ≡ pos m → 2 ≤ m → pos 0 <ℤ v.x → unsigned_abs (weight_norm v) < unsigned_abs (weight_norm w)
+norm_falls w v u m e f l h =
+    let g : unsigned_abs (weight_norm w) ≡ unsigned_abs (weight_norm v) * m = ap (λ (t : Weight). unsigned_abs (weight_norm t)) e ∙ ap unsigned_abs (weight_norm-product v u ∙ ap (λ (t : ℤ). weight_norm v *ℤ t) f) ∙ unsigned_abs-mul (weight_norm v) (pos m) in
     let n : unsigned_abs (weight_norm v) ≢ 0 = λ z. no_zero (weight_norm_zero v (abs_zero (weight_norm v) z)) in
-    omega arith
+    below (unsigned_abs (weight_norm v)) m (unsigned_abs (weight_norm w)) g n l
   where
+    below : (n m k : ℕ) → k ≡ n * m → n ≢ 0 → 2 ≤ m → n < k
+    below n m k e h l = let r : n ≤ n = omega arith in let p : n * 2 ≤ n * m = mul-le-mul r l in omega (arith, e, h, p)
+
     abs_zero : (z : ℤ) → unsigned_abs z ≡ 0 → z ≡ pos 0
     abs_zero z e = omega (arith, ints)
 
@@ -118,7 +142,7 @@ lower_step vs us w r e s n h f =
       weight = g;
       smaller = not_more w r s (f ∙ lower_pair_is r);
       nonzero = m;
-      falls = norm_halves w r lower_pair f refl (x_of r us g m);
+      falls = norm_falls w r lower_pair 2 f refl (omega arith) (x_of r us g m);
       scaled = scaled_times vs us delta_conjugate conjugate_nonzero h;
     }
   where
@@ -135,7 +159,7 @@ upper_step vs us w r e s n h f =
       weight = g;
       smaller = not_more w r s (f ∙ upper_pair_is r);
       nonzero = m;
-      falls = norm_halves w r upper_pair f refl (x_of r us g m);
+      falls = norm_falls w r upper_pair 2 f refl (omega arith) (x_of r us g m);
       scaled = scaled_times vs us delta delta_nonzero h;
     }
   where
@@ -143,6 +167,36 @@ upper_step vs us w r e s n h f =
     not_more w r s f =
         let fx = ap (λ (t : Weight). t.x) f in let fy = ap (λ (t : Weight). t.y) f in
         omega (arith, order)
+
+-- ---- by 1 - w^2
+abbrev both_pair : Weight
+both_pair = record { x = pos 2; y = pos 0 }
+
+pub both_weights_even : (vs us : List Coefficient) (w : Weight) → w ≡ total_weight vs → AreTimes vs us both_deltas → IsEven w.x × IsEven w.y
+both_weights_even vs us w e h =
+    let v = total_weight us in let f = e ∙ times_weight vs us both_deltas h ∙ both_pair_is v in
+    ((v.x, ap (λ (t : Weight). t.x) f), (v.y, ap (λ (t : Weight). t.y) f))
+
+cancel_both : (v u : Weight) → weight_product v both_pair ≡ weight_product u both_pair → v ≡ u
+cancel_both v u e =
+    let f = sym (both_pair_is v) ∙ e ∙ both_pair_is u in
+    let fx = ap (λ (t : Weight). t.x) f in let fy = ap (λ (t : Weight). t.y) f in
+    same_weight v u (omega (arith, order)) (omega (arith, order))
+
+pub both_step : (vs us : List Coefficient) (w r : Weight) → w ≡ total_weight vs → IsNonzero vs → AreTimes vs us both_deltas → w ≡ weight_product r both_pair → IsDivided vs us w r
+both_step vs us w r e n h f =
+    let g : r ≡ total_weight us = cancel_both r (total_weight us) (sym f ∙ e ∙ times_weight vs us both_deltas h) in
+    let m = times_nonzero vs us both_deltas h n in
+    record {
+      weight = g;
+      smaller = not_more w r (x_of r us g m) (f ∙ both_pair_is r);
+      nonzero = m;
+      falls = norm_falls w r both_pair 4 f refl (omega arith) (x_of r us g m);
+      scaled = scaled_times vs us both_deltas both_nonzero h;
+    }
+  where
+    not_more : (w r : Weight) → pos 0 <ℤ r.x → w ≡ record { x = r.x +ℤ r.x; y = r.y +ℤ r.y } → r.x ≤ℤ w.x
+    not_more w r s f = let fx = ap (λ (t : Weight). t.x) f in omega (arith, order)
 
 -- ---- units
 times_down_up : (z : Coefficient) → z ≡ (z ⊗ unit_down) ⊗ unit_up

@@ -2,7 +2,7 @@
 use Rattle.std.proofs.Common.{◌≡◌, ◌<◌, ◌^◌, ℤ, pos, ◌+ℤ◌, ◌-ℤ◌, ◌≤ℤ◌, ◌<ℤ◌, unsigned_abs, FitsSigned, to_z, of_z, sym, ap, ◌∙◌, arith}
 use Rattle.std.proofs.lemmas.Int.{ints, to_z-of_z, fits_signed_from_abs}
 use mir.Syntax.{w64, w128}
-use Rattle.amplitude_register.proofs.Products.{conjugate_is, lower_pair_is, upper_pair_is}
+use Rattle.amplitude_register.proofs.Products.{conjugate_is, both_is, lower_pair_is, upper_pair_is, both_pair_is}
 use Rattle.state_model.specs.Coefficient.{Coefficient, ◌⊗◌, Weight}
 use Rattle.state_model.specs.Divisors.{weight_product, delta}
 use Rattle.omega_ring.specs.Range.{CoordinatesBelow}
@@ -10,7 +10,7 @@ use Rattle.state_model.proofs.Expressions.{same_weight}
 use Rattle.state_model.proofs.Ring.{same_coordinates}
 use Rattle.state_model.proofs.Inequalities.{order}
 use Rattle.state_model.proofs.Delta.{⊗-delta}
-use Rattle.amplitude_register.specs.Multiples.{delta_conjugate}
+use Rattle.amplitude_register.specs.Multiples.{delta_conjugate, both_deltas}
 
 -- a number as its bits are read
 abbrev pub short : ℤ → ℤ
@@ -163,7 +163,49 @@ over_conjugate_is z h r e =
         (omega (arith, order)) (omega (arith, order)) (omega (arith, order)) (omega (arith, order))
         ∙ sym (conjugate_is q)
 
+-- ---- the quotient by 1 - w^2
+-- differences of coordinates
+pub difference_is : (x y : ℤ) → unsigned_abs x < 2 ^ 61 → unsigned_abs y < 2 ^ 61 → short (short x -ℤ short y) ≡ x -ℤ y
+difference_is x y p q = let h = short_sub (short x) (short y) x y (short_self x (omega (arith, ints))) (short_self y (omega (arith, ints))) (omega (arith, ints)) in h.value
+
+-- what is left of a coordinate, where twice h is a difference
+rest_small : (x y h : ℤ) → unsigned_abs x < 2 ^ 61 → unsigned_abs y < 2 ^ 61 → x -ℤ y ≡ h +ℤ h → (unsigned_abs h < 2 ^ 63) × (unsigned_abs (x -ℤ h) < 2 ^ 63)
+rest_small x y h p q e = (omega (arith, ints), omega (arith, ints))
+
+pub rest_is : (x y h : ℤ) → unsigned_abs x < 2 ^ 61 → unsigned_abs y < 2 ^ 61 → x -ℤ y ≡ h +ℤ h → short (short x -ℤ short h) ≡ x -ℤ h
+rest_is x y h p q e = let k = rest_small x y h p q e in let s = short_sub (short x) (short h) x h (short_self x (omega (arith, ints))) (short_self h (k.0)) (k.1) in s.value
+
+pub rest_fits : (x y h : ℤ) → unsigned_abs x < 2 ^ 61 → unsigned_abs y < 2 ^ 61 → x -ℤ y ≡ h +ℤ h → FitsSigned w64 (short x -ℤ short h)
+rest_fits x y h p q e = let k = rest_small x y h p q e in fits_difference (short x) (short h) x h (short_self x (omega (arith, ints))) (short_self h (k.0)) (k.1)
+
+pub half_is : (x y h : ℤ) → unsigned_abs x < 2 ^ 61 → unsigned_abs y < 2 ^ 61 → x -ℤ y ≡ h +ℤ h → short h ≡ h
+half_is x y h p q e = short_is h ((rest_small x y h p q e).0)
+
+pub over_both_is : (z : Coefficient) (h k : ℤ) → CoordinatesBelow (2 ^ 61) z → z.a -ℤ z.c ≡ h +ℤ h → z.b -ℤ z.d ≡ k +ℤ k
+    → z ≡ record { a = short h; b = short k; c = short (short z.a -ℤ short h); d = short (short z.b -ℤ short k) } ⊗ both_deltas
+over_both_is z h k r e f =
+    at z h k e f ∙ ap (λ (t : Coefficient). t ⊗ both_deltas) (sym (same_coordinates _ record { a = h; b = k; c = z.a -ℤ h; d = z.b -ℤ k } (half_is z.a z.c h r.a r.c e) (half_is z.b z.d k r.b r.d f) (rest_is z.a z.c h r.a r.c e) (rest_is z.b z.d k r.b r.d f)))
+  where
+    at : (z : Coefficient) (h k : ℤ) → z.a -ℤ z.c ≡ h +ℤ h → z.b -ℤ z.d ≡ k +ℤ k → z ≡ record { a = h; b = k; c = z.a -ℤ h; d = z.b -ℤ k } ⊗ both_deltas
+    at z h k e f =
+        let q : Coefficient = record { a = h; b = k; c = z.a -ℤ h; d = z.b -ℤ k } in
+        same_coordinates z record { a = q.a +ℤ q.c; b = q.b +ℤ q.d; c = q.c -ℤ q.a; d = q.d -ℤ q.b }
+        (omega (arith, order)) (omega (arith, order)) (omega (arith, order)) (omega (arith, order))
+        ∙ sym (both_is q)
+
 -- ---- weights
+pub both_weight_is : (w : Weight) (h k : ℤ) → unsigned_abs w.x < 2 ^ 122 → unsigned_abs w.y < 2 ^ 122 → long w.x ≡ h +ℤ h → long w.y ≡ k +ℤ k → w ≡ weight_product record { x = long h; y = long k } record { x = pos 2; y = pos 0 }
+both_weight_is w h k p q e f =
+    let g = sym (long_is w.x (wide w.x p)) ∙ e in let m = sym (long_is w.y (wide w.y q)) ∙ f in
+    same_weight w record { x = h +ℤ h; y = k +ℤ k } g m ∙ sym (both_pair_is record { x = h; y = k })
+    ∙ ap (λ (t : Weight). weight_product t record { x = pos 2; y = pos 0 }) (sym (same_weight record { x = long h; y = long k } record { x = h; y = k } (long_is h (half w.x h p g)) (long_is k (half w.y k q m))))
+  where
+    wide : (x : ℤ) → unsigned_abs x < 2 ^ 122 → unsigned_abs x < 2 ^ 127
+    wide x p = omega arith
+
+    half : (x h : ℤ) → unsigned_abs x < 2 ^ 122 → x ≡ h +ℤ h → unsigned_abs h < 2 ^ 127
+    half x h p e = omega (arith, ints)
+
 pub lower_is : (w : Weight) (h : ℤ) → w.x <ℤ pos (2 ^ 122) → pos 0 ≤ℤ w.y → w.y ≤ℤ w.x → long w.x ≡ h +ℤ h → w ≡ weight_product record { x = long (long w.x -ℤ long w.y); y = long (long w.y -ℤ long h) } record { x = pos 2; y = pos 1 }
 lower_is w h s n l f =
     let e : w.x ≡ h +ℤ h = sym (long_is w.x (whole w.x w.y s n l)) ∙ f in

@@ -1,12 +1,18 @@
 -- Lists of coefficients: sizes of their coordinates, multiples entry by entry, and places of a row.
-use Rattle.std.specs.Prelude.{◌≡◌, ℕ, pos, ◌<◌, ◌^◌, List, length}
+use Rattle.std.specs.Prelude.{◌≡◌, ℕ, pos, neg_ℤ, ◌<◌, ◌^◌, true, false, List, length}
 use Rattle.state_model.specs.Coefficient.{Coefficient, coefficient, ◌⊗◌}
 use Rattle.state_model.specs.CoefficientList.{at, IsReduced, IsScaled}
+use Rattle.state_model.specs.Row.{is_set, with_bit}
+use Rattle.state_model.specs.Gate.{Matrix, entry}
 use Rattle.omega_ring.specs.Range.{CoordinatesBelow}
 
 -- 1 + w, whose weight is that of 1 - w with the other sign before √2
 abbrev pub delta_conjugate : Coefficient
 delta_conjugate = coefficient (pos 1) (pos 1) (pos 0) (pos 0)
+
+-- (1 - w) (1 + w), whose weight is 2
+abbrev pub both_deltas : Coefficient
+both_deltas = coefficient (pos 1) (pos 0) (neg_ℤ (pos 1)) (pos 0)
 
 -- all coordinates of all entries lie strictly between -n and n
 abbrev pub AllWithin : ℕ → List Coefficient → Type 0
@@ -27,3 +33,7 @@ pub record HasPlace (place rows : ℕ) : Type 0 where
   pub qubits : ℕ
   pub inside : place < qubits
   pub count : rows ≡ 2 ^ qubits
+
+-- what a gate's matrix gives a row
+abbrev pub IsGateRow : Matrix → ℕ → List Coefficient → ℕ → Coefficient → Type 0
+IsGateRow m place old row z = z ≡ entry m (is_set place row) (at old (with_bit place false row)) (at old (with_bit place true row))

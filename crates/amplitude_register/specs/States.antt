@@ -4,7 +4,8 @@ use Rattle.state_model.specs.Coefficient.{Coefficient, zero_coefficient, one_coe
 use Rattle.state_model.specs.CoefficientList.{IsScaled, IsNormal, IsLeastSize, HasDeltaDivisors, total_weight}
 use Rattle.state_model.specs.StateVector.{IsSameState, IsSize}
 use Rattle.state_model.specs.Gate.{Matrix}
-use Rattle.state_model.specs.Amplitudes.{Amplitudes, vector_of, HasRows, IsGateList}
+use Rattle.state_model.specs.Amplitudes.{Amplitudes, vector_of, HasRows, IsGateList, IsTwoGateList}
+use Rattle.state_model.specs.declared.Two.{Two}
 use Rattle.amplitude_register.specs.declared.register.Reduce.{Reduce}
 use Rattle.amplitude_register.specs.declared.register.Reduce.TheVariants.{Delta, Full}
 
@@ -89,6 +90,12 @@ pub record IsGateStep (m : Matrix) (place s : ℕ) (old new : RegisterState) : T
   pub rows : length (next_value new.next).list ≡ length (next_value old.next).list
   pub list : IsGateList m place (next_value old.next).list (next_value new.next).list
   pub weight : total_weight (next_value new.next).list ≡ scaled s (total_weight (next_value old.next).list)
+
+-- what a gate of two qubits makes of the prepared value, row by row, which has the weight of before
+pub record IsTwoGateStep (k : Two) (one two : ℕ) (old new : RegisterState) : Type 0 where
+  pub after : new ≡ record old { next = prepared record { qubits = (next_value old.next).qubits; list = (next_value new.next).list } }
+  pub list : IsTwoGateList k one two (next_value old.next).list (next_value new.next).list
+  pub weight : total_weight (next_value new.next).list ≡ total_weight (next_value old.next).list
 
 -- a list that can be reduced by powers of 1 - w has no other common divisors, and one that can be reduced fully is small
 abbrev pub CanReduce : Reduce → List Coefficient → Type 0

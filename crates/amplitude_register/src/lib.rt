@@ -5,9 +5,12 @@
 mod balancing;
 mod block;
 mod common;
+mod controlled;
 mod division;
+mod from_value;
 mod fronts;
 mod normal;
+mod passes;
 mod register;
 mod rows;
 mod scalars;

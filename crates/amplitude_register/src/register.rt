@@ -1,21 +1,21 @@
 //! A register: its value, and room for the next one.
-ghost use Rattle.std.specs.Prelude.{◌≡◌, ◌≢◌, pos, nat_abs, ◌<◌, ◌≤◌, ◌^◌, ◌<ℤ◌, false, unsigned_abs, length, IfOk, MatchResult, MatchOption, slice_index_or};
-ghost use Rattle.state_model.specs.Coefficient.{negated, scaled};
+ghost use Rattle.std.specs.Prelude.{◌≡◌, ◌≢◌, pos, nat_abs, ◌<◌, ◌≤◌, ◌^◌, ◌<ℤ◌, false, length, IfOk, MatchResult, MatchOption, slice_index_or};
+ghost use Rattle.state_model.specs.Coefficient.{negated};
 ghost use Rattle.state_model.specs.Row.{is_listed};
 ghost use Rattle.state_model.specs.CoefficientList.{at, total_weight, IsNonzero, HasDeltaDivisors};
 ghost use Rattle.state_model.specs.StateVector.{IsSize};
 ghost use Rattle.state_model.specs.Gate.{matrix};
 ghost use Rattle.state_model.specs.declared.Gate.TheVariants.{H, X, RotZ};
+ghost use Rattle.state_model.specs.declared.Two.TheVariants.{Cnot, Cphase};
 ghost use Rattle.state_model.specs.Amplitudes.{vector_of, AreDistinct, HasRows};
 ghost use Rattle.omega_ring.specs.Views.{omega_value, weight_value};
 ghost use Rattle.omega_ring.specs.Range.{CoordinatesBelow};
-ghost use Rattle.amplitude_register.specs.declared.block.Stage.TheVariants.{Weighed};
 ghost use Rattle.amplitude_register.specs.Multiples.{IsReducedFrom};
-ghost use Rattle.amplitude_register.specs.States.{RegisterState, empty, draft, prepared, no_qubit, basis_state, pair_state, zeros, IsDraft, IsPrepared, IsPresent, IsNextKept, next_value, prepared_qubits, with_list, with_row, IsKept, IsGateStep, IsSealed, IsRefused, CanReduce};
+ghost use Rattle.amplitude_register.specs.States.{RegisterState, empty, draft, prepared, no_qubit, basis_state, pair_state, zeros, IsDraft, IsPrepared, IsPresent, IsNextKept, next_value, prepared_qubits, with_list, with_row, IsKept, IsGateStep, IsTwoGateStep, IsSealed, IsRefused, CanReduce};
 
-use crate::block::{Block, Stage};
+use crate::block::{Block, Stage, next_weight};
 use crate::scalars::opposite;
-use crate::{common, fronts, normal, rows};
+use crate::{common, controlled, fronts, normal, rows};
 use omega_ring::{Omega, Weight};
 use std::alloc::{AllocError, Global};
 use std::marker::Model;
@@ -27,10 +27,10 @@ use std::marker::Model;
 /// their weight, and have x, the sum of squares of all coordinates, below 2^60.
 #[derive(Drop)]
 pub struct Register {
-    limit: u8,
-    value: Block,
-    next: Block,
-    stage: Stage,
+    pub(crate) limit: u8,
+    pub(crate) value: Block,
+    pub(crate) next: Block,
+    pub(crate) stage: Stage,
 }
 
 impl Model for Register {
@@ -111,6 +111,20 @@ impl Register {
         self.value.weight.x
     }
 
+    /// The value's weight.
+    pub fn weight(&self) -> Weight
+        ensures { weight_value result ≡ total_weight self.now.value.list }
+    {
+        self.value.weight
+    }
+
+    /// The most qubits that it may have.
+    pub fn limit(&self) -> u8
+        ensures { result ≡ self.now.limit }
+    {
+        self.limit
+    }
+
     /// What every register keeps.
     pub fn facts(&self)
         ensures kept { IsKept self.now.value }
@@ -185,6 +199,44 @@ impl Register {
         self.stage = Stage::Prepared;
     }
 
+    /// The prepared value is the one qubit `q` in a basis state.
+    pub fn prepare_basis(&mut self, q: u8, bit: bool)
+        ensures { self.new ≡ record self.old { next = prepared (basis_state q bit) } }
+    {
+        fronts::write_number(&mut self.next.qubits, q);
+        fronts::write_basis(&mut self.next.entries, bit);
+        self.next.count = 1;
+        self.next.rows = 2;
+        self.next.weight = ONE;
+        self.stage = Stage::Prepared;
+    }
+
+    /// The prepared value is two qubits, in the sum of the rows in which both bits agree.
+    pub fn prepare_pair(&mut self, p: u8, q: u8)
+        requires apart { p ≢ q }
+        requires room { 2 ≤ self.old.limit }
+        ensures { self.new ≡ record self.old { next = prepared (pair_state p q) } }
+    {
+        let _limit = self.limit;
+        fronts::write_two(&mut self.next.qubits, p, q);
+        fronts::write_pair(&mut self.next.entries);
+        self.next.count = 2;
+        self.next.rows = 4;
+        self.next.weight = Weight { x: 2, y: 0 };
+        self.stage = Stage::Prepared;
+    }
+
+    /// The prepared value has no qubit.
+    pub fn prepare_none(&mut self)
+        ensures { self.new ≡ record self.old { next = prepared no_qubit } }
+    {
+        fronts::write_one(&mut self.next.entries);
+        self.next.count = 0;
+        self.next.rows = 1;
+        self.next.weight = ONE;
+        self.stage = Stage::Prepared;
+    }
+
     /// Opens a draft of zeros.
     pub fn begin(&mut self, qubits: &[u8])
         requires distinct { AreDistinct qubits.now }
@@ -254,6 +306,31 @@ impl Register {
     {
         let _limit = self.limit;
         rows::exchange_front(&mut self.next.entries, self.next.rows, place);
+    }
+
+    /// Exchanges each two rows of the prepared value that differ in the bit at the target, where that at the
+    /// control is 1, as the gate CNOT does.
+    pub fn exchange_rows_where(&mut self, control: u8, target: u8)
+        requires prepared { IsPrepared self.old.next }
+        requires apart { control ≢ target }
+        requires control { control < length (next_value self.old.next).qubits }
+        requires target { target < length (next_value self.old.next).qubits }
+        ensures { IsTwoGateStep Cnot control target self.old self.new }
+    {
+        let _limit = self.limit;
+        controlled::exchange_where_front(&mut self.next.entries, self.next.rows, control, target);
+    }
+
+    /// Negates the rows of the prepared value in which the bits at both places are 1, as the gate CPHASE does.
+    pub fn negate_rows_where(&mut self, one: u8, two: u8)
+        requires prepared { IsPrepared self.old.next }
+        requires apart { one ≢ two }
+        requires one { one < length (next_value self.old.next).qubits }
+        requires two { two < length (next_value self.old.next).qubits }
+        ensures { IsTwoGateStep Cphase one two self.old self.new }
+    {
+        let _limit = self.limit;
+        controlled::negate_where_front(&mut self.next.entries, self.next.rows, one, two);
     }
 
     /// Reduces and balances the draft and prepares it; TooLarge, with the least size of the draft's state, exactly
@@ -366,30 +443,6 @@ impl Register {
             Stage::Prepared => Some(self.next.count),
             _ => None,
         }
-    }
-}
-
-/// Twice the weight, where it is known.
-fn next_weight(stage: Stage, weight: Weight) -> Weight
-    requires x { stage ≡ Weighed → unsigned_abs weight.x < 2 ^ 122 }
-    requires y { stage ≡ Weighed → unsigned_abs weight.y < 2 ^ 122 }
-    ensures { stage ≡ Weighed → weight_value result ≡ scaled 2 (weight_value weight) }
-{
-    match stage {
-        Stage::Weighed => double(weight),
-        _ => weight,
-    }
-}
-
-/// Twice the weight.
-fn double(weight: Weight) -> Weight
-    requires x { unsigned_abs weight.x < 2 ^ 122 }
-    requires y { unsigned_abs weight.y < 2 ^ 122 }
-    ensures { weight_value result ≡ scaled 2 (weight_value weight) }
-{
-    Weight {
-        x: 2 * weight.x,
-        y: 2 * weight.y,
     }
 }
 

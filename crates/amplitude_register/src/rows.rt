@@ -12,7 +12,7 @@ ghost use Rattle.amplitude_register.specs.Multiples.{AllWithin, HasPlace};
 use omega_ring::Omega;
 
 /// Whether the row's bit at the place is 1.
-fn has_bit(row: usize, place: u8) -> bool
+pub(crate) fn has_bit(row: usize, place: u8) -> bool
     requires { place < 12 }
     ensures { result ≡ is_set place row }
 {
@@ -20,7 +20,7 @@ fn has_bit(row: usize, place: u8) -> bool
 }
 
 /// Of so many rows, the one with the row's bit at the place 1.
-fn with_high_bit(rows: usize, row: usize, place: u8) -> usize
+pub(crate) fn with_high_bit(rows: usize, row: usize, place: u8) -> usize
     requires low { place < 12 }
     requires place { HasPlace place rows }
     requires row { row < rows }
@@ -32,7 +32,7 @@ fn with_high_bit(rows: usize, row: usize, place: u8) -> usize
 }
 
 /// The sum.
-fn plus(z: Omega, u: Omega) -> Omega
+pub(crate) fn plus(z: Omega, u: Omega) -> Omega
     requires left { CoordinatesBelow (2 ^ 61) (omega_value z) }
     requires right { CoordinatesBelow (2 ^ 61) (omega_value u) }
     ensures { omega_value result ≡ omega_value z ⊕ omega_value u }
@@ -46,7 +46,7 @@ fn plus(z: Omega, u: Omega) -> Omega
 }
 
 /// The difference.
-fn less(z: Omega, u: Omega) -> Omega
+pub(crate) fn less(z: Omega, u: Omega) -> Omega
     requires left { CoordinatesBelow (2 ^ 61) (omega_value z) }
     requires right { CoordinatesBelow (2 ^ 61) (omega_value u) }
     ensures { omega_value result ≡ omega_value z ⊖ omega_value u }

@@ -5,7 +5,7 @@ ghost use Rattle.state_model.specs.Divisors.{Divides, delta, unit_up, unit_down}
 ghost use Rattle.state_model.specs.Quotients.{IsEven};
 ghost use Rattle.omega_ring.specs.Views.{omega_value};
 ghost use Rattle.omega_ring.specs.Range.{CoordinatesBelow};
-ghost use Rattle.amplitude_register.specs.Multiples.{delta_conjugate};
+ghost use Rattle.amplitude_register.specs.Multiples.{delta_conjugate, both_deltas};
 
 use omega_ring::Omega;
 
@@ -60,6 +60,22 @@ pub(crate) fn over_conjugate(z: Omega) -> Omega
     Omega { a, b, c, d }
 }
 
+/// The quotient by 1 - w^2.
+pub(crate) fn over_both(z: Omega) -> Omega
+    requires range { CoordinatesBelow (2 ^ 61) (omega_value z) }
+    requires divides { Divides both_deltas (omega_value z) }
+    ensures { omega_value z ≡ (omega_value result) ⊗ both_deltas }
+{
+    let a = half_of(z.a - z.c);
+    let b = half_of(z.b - z.d);
+    Omega {
+        a,
+        b,
+        c: z.a - a,
+        d: z.b - b,
+    }
+}
+
 /// The product with sqrt(2) + 1.
 pub(crate) fn times_up(z: Omega) -> Omega
     requires { CoordinatesBelow (2 ^ 61) (omega_value z) }
@@ -92,6 +108,14 @@ pub(crate) fn is_divisible(z: Omega) -> bool
     ensures { IsTrue result ↔ Divides delta (omega_value z) }
 {
     is_even(z.a + z.b + z.c + z.d)
+}
+
+/// Whether `1 - w^2` divides the value, which it does where the coordinates in turn agree in parity.
+pub(crate) fn is_divisible_by_both(z: Omega) -> bool
+    requires { CoordinatesBelow (2 ^ 61) (omega_value z) }
+    ensures { IsTrue result ↔ Divides both_deltas (omega_value z) }
+{
+    is_even(z.a - z.c) && is_even(z.b - z.d)
 }
 
 /// Whether a number is even.

@@ -1,2 +1,5 @@
 pub mod Made
 pub mod Matrices
+mod TwoSteps
+mod RowSums
+pub mod TwoSizes

@@ -99,9 +99,7 @@ fn turn(reg: &mut Register, place: u8, eighths: u8)
     ensures made { IsMade preparing (matrix (RotZ eighths)) 1 place reg.old reg.new }
     ensures kept { IsNextKept reg.new.next }
 {
-    reg.facts();
-    reg.prepare_same();
-    reg.turn_rows(place, eighths);
+    reg.prepare_turned(place, eighths);
     reg.facts();
 }
 
@@ -110,9 +108,7 @@ fn mix(reg: &mut Register, place: u8)
     requires { place < length reg.old.value.qubits }
     ensures { IsMade drafting (matrix H) 2 place reg.old reg.new }
 {
-    reg.facts();
-    reg.begin_same();
-    reg.mix_rows(place);
+    reg.begin_mixed(place);
 }
 
 /// Drafts what K makes of the value: H between a turn back and a turn by a quarter.

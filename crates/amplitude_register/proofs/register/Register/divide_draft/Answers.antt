@@ -1,5 +1,4 @@
 use Rattle.std.proofs.Common.{◌^◌, map, take, refl}
-use Rattle.state_model.specs.Amplitudes.{Amplitudes}
 use Rattle.omega_ring.specs.Views.{omega_value}
 use Rattle.amplitude_register.specs.Held.{amplitudes_of}
 use Rattle.amplitude_register.proofs.Fields.{block_room, open_nonzero, same_front}

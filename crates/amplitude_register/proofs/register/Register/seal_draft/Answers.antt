@@ -1,9 +1,9 @@
 use mir.Syntax.{w128}
 use Rattle.std.proofs.lemmas.Int.{to_z-of_z, ints}
 use Rattle.amplitude_register.proofs.Stored.{long}
-use Rattle.std.proofs.Common.{rules, ℤ, FitsSigned, ◌≤ℤ◌, ◌≡◌, ◌^◌, ◌<ℤ◌, ℕ, pos, List, length, map, take, refl, sym, ap, subst, ◌∙◌, arith}
-use Rattle.amplitude_register.proofs.Fields.{block_room, block_rows, open_value, draft_present, place_below, has_place, present_range, draft_range, weighed_small, stepped, gate_step, list_of, mixed_stage, turned_stage, not_prepared, turned_scale, exchanged_scale}
-use Rattle.amplitude_register.specs.Held.{amplitudes_of, next_of}
+use Rattle.std.proofs.Common.{rules, FitsSigned, ◌≤ℤ◌, ◌≡◌, ◌^◌, pos, map, take, refl, sym, ap, subst, ◌∙◌, arith}
+use Rattle.amplitude_register.proofs.Fields.{block_room, block_rows, open_value, list_of}
+use Rattle.amplitude_register.specs.Held.{amplitudes_of}
 use Rattle.amplitude_register.proofs.Fields.{sealed_ok, sealed_kept, refused, open_nonzero, same_front}
 use Rattle.state_model.specs.CoefficientList.{HasDeltaDivisors}
 use Rattle.state_model.specs.Amplitudes.{Amplitudes}

@@ -1,0 +1,9 @@
+use Rattle.std.proofs.Common.{ℕ, ◌<◌, get_or}
+use Rattle.state_model.specs.Divisors.{Divides}
+use Rattle.omega_ring.specs.Views.{omega_value}
+use Rattle.amplitude_register.specs.Multiples.{both_deltas}
+use Rattle.amplitude_register.proofs.Entries.{zero_omega}
+use Rattle.amplitude_register.proofs.division.all_divisible_by_both.Given as goal
+
+abbrev pub invariant-loop-z : goal.invariant-loop-z
+invariant-loop-z l = (k : ℕ) → k < l.z-index → Divides both_deltas (omega_value (get_or l.list k zero_omega))

@@ -1,0 +1,138 @@
+//! Gates in one pass from the rows of one list to those of another.
+ghost use Rattle.std.specs.Prelude.{◌≡◌, ◌<◌, ◌≤◌, ◌^◌, false, length, take};
+ghost use Rattle.state_model.specs.Row.{with_bit};
+ghost use Rattle.state_model.specs.Gate.{matrix};
+ghost use Rattle.state_model.specs.declared.Gate.TheVariants.{H, RotZ};
+ghost use Rattle.state_model.specs.Amplitudes.{IsGateList};
+ghost use Rattle.omega_ring.specs.Views.{omega_value, omega_values};
+ghost use Rattle.amplitude_register.specs.Multiples.{AllWithin, HasPlace, IsGateRow};
+
+use crate::rows::{has_bit, less, plus, with_high_bit};
+use omega_ring::Omega;
+
+/// Of so many rows, the one with the row's bit at the place 0.
+fn with_low_bit(rows: usize, row: usize, place: u8) -> usize
+    requires low { place < 12 }
+    requires place { HasPlace place rows }
+    requires row { row < rows }
+    ensures value { result ≡ with_bit place false row }
+    ensures inside { result < rows }
+{
+    let _rows = rows;
+    (row | (1 << place)) ^ (1 << place)
+}
+
+/// The sum or the difference that a Hadamard gives a row.
+fn mixed(from: &[Omega], row: usize, place: u8) -> Omega
+    requires low { place < 12 }
+    requires place { HasPlace place (length from.now) }
+    requires row { row < length from.now }
+    requires range { AllWithin (2 ^ 61) (omega_values from.now) }
+    ensures { IsGateRow (matrix H) place (omega_values from.now) row (omega_value result) }
+{
+    if has_bit(row, place) {
+        less(from[with_low_bit(from.len(), row, place)], from[row])
+    } else {
+        plus(from[row], from[with_high_bit(from.len(), row, place)])
+    }
+}
+
+/// The coefficient of a row, turned by so many eighths where its bit is 1.
+fn turned(from: &[Omega], row: usize, place: u8, eighths: u8) -> Omega
+    requires low { place < 12 }
+    requires eighths { eighths < 8 }
+    requires row { row < length from.now }
+    requires range { AllWithin (2 ^ 61) (omega_values from.now) }
+    ensures { IsGateRow (matrix (RotZ eighths)) place (omega_values from.now) row (omega_value result) }
+{
+    if has_bit(row, place) {
+        from[row].times_root(eighths)
+    } else {
+        from[row]
+    }
+}
+
+/// Writes the sum and the difference of each pair of rows.
+fn mix_into(list: &mut [Omega], from: &[Omega], place: u8)
+    requires same { length list.old ≡ length from.now }
+    requires low { place < 12 }
+    requires place { HasPlace place (length from.now) }
+    requires range { AllWithin (2 ^ 61) (omega_values from.now) }
+    ensures { IsGateList (matrix H) place (omega_values from.now) (omega_values list.new) }
+{
+    for row in 0..from.len() {
+        list[row] = mixed(from, row, place);
+    }
+}
+
+/// Writes the rows, those turned whose bit is 1.
+fn turn_into(list: &mut [Omega], from: &[Omega], place: u8, eighths: u8)
+    requires same { length list.old ≡ length from.now }
+    requires low { place < 12 }
+    requires eighths { eighths < 8 }
+    requires place { HasPlace place (length from.now) }
+    requires range { AllWithin (2 ^ 61) (omega_values from.now) }
+    ensures { IsGateList (matrix (RotZ eighths)) place (omega_values from.now) (omega_values list.new) }
+{
+    for row in 0..from.len() {
+        list[row] = turned(from, row, place, eighths);
+    }
+}
+
+/// As `mix_into`, at the front of two lists.
+fn mix_into_part(list: &mut [Omega], from: &[Omega], rows: usize, place: u8)
+    requires to { rows ≤ length list.old }
+    requires from { rows ≤ length from.now }
+    requires low { place < 12 }
+    requires place { HasPlace place rows }
+    requires range { AllWithin (2 ^ 61) (omega_values (take rows from.now)) }
+    ensures { IsGateList (matrix H) place (omega_values (take rows from.now)) (omega_values (take rows list.new)) }
+{
+    mix_into(&mut list[..rows], &from[..rows], place);
+}
+
+/// As `turn_into`, at the front of two lists.
+fn turn_into_part(list: &mut [Omega], from: &[Omega], rows: usize, place: u8, eighths: u8)
+    requires to { rows ≤ length list.old }
+    requires from { rows ≤ length from.now }
+    requires low { place < 12 }
+    requires eighths { eighths < 8 }
+    requires place { HasPlace place rows }
+    requires range { AllWithin (2 ^ 61) (omega_values (take rows from.now)) }
+    ensures { IsGateList (matrix (RotZ eighths)) place (omega_values (take rows from.now)) (omega_values (take rows list.new)) }
+{
+    turn_into(&mut list[..rows], &from[..rows], place, eighths);
+}
+
+/// As `mix_into`, at the front of two buffers.
+pub(crate) fn mix_front_into(entries: &mut Vec<Omega>, from: &Vec<Omega>, rows: usize, place: u8)
+    requires to { rows ≤ length entries.old.items }
+    requires from { rows ≤ length from.now.items }
+    requires low { place < 12 }
+    requires place { HasPlace place rows }
+    requires range { AllWithin (2 ^ 61) (omega_values (take rows from.now.items)) }
+    ensures room { length entries.new.items ≡ length entries.old.items }
+    ensures list { IsGateList (matrix H) place (omega_values (take rows from.now.items)) (omega_values (take rows entries.new.items)) }
+{
+    mix_into_part(entries, from, rows, place);
+}
+
+/// As `turn_into`, at the front of two buffers.
+pub(crate) fn turn_front_into(
+    entries: &mut Vec<Omega>,
+    from: &Vec<Omega>,
+    rows: usize,
+    place: u8,
+    eighths: u8,
+)
+    requires to { rows ≤ length entries.old.items }
+    requires from { rows ≤ length from.now.items }
+    requires low { place < 12 }
+    requires eighths { eighths < 8 }
+    requires place { HasPlace place rows }
+    requires range { AllWithin (2 ^ 61) (omega_values (take rows from.now.items)) }
+    ensures room { length entries.new.items ≡ length entries.old.items }
+    ensures list { IsGateList (matrix (RotZ eighths)) place (omega_values (take rows from.now.items)) (omega_values (take rows entries.new.items)) }
+{
+    turn_into_part(entries, from, rows, place, eighths);
+}
