@@ -1,0 +1,12 @@
+pub mod ProductLists
+pub mod ProductVectors
+pub mod UnitMultiples
+pub mod ProductSizes
+pub mod Stored
+pub mod Coordinates
+pub mod ProductWeights
+pub mod WrittenRows
+pub mod MergedDrafts
+pub mod JoinedNumbers
+pub mod Apart
+pub mod MergedParts
