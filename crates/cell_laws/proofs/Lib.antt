@@ -1,0 +1,14 @@
+pub mod Draws
+pub mod FreePlaces
+pub mod GateSlots
+pub mod Instructions
+pub mod JoinedSlots
+pub mod Lengths
+pub mod LiveCounts
+pub mod MeasuredSlots
+pub mod Members
+pub mod NewSlots
+pub mod StepSlots
+pub mod TwoSizes
+pub mod TwoSlots
+pub mod Weights

@@ -1,0 +1,35 @@
+-- Cells in lists, as the cells of a board.
+use Rattle.std.specs.Prelude.{ℕ, ◌≡◌, ◌*◌, ◌≤◌, List, length, Some, None, slice_get, slice_set}
+use Rattle.network_model.specs.Network.{Shape, opening}
+use Rattle.core_cells.specs.Cells.{Cells, HasAllCells, IsUnprepared, CellsFit}
+use Rattle.core_cells.specs.declared.cells.NodePair.{NodePair}
+use Rattle.core_cells.specs.declared.cells.PoolPair.{PoolPair}
+use Rattle.core_cells.specs.declared.cells.SlotCell.{SlotCell}
+
+-- the nodes, the pool and the slots, each by its number
+pub record Owned : Type 0 where
+  pub nodes : List NodePair
+  pub pool : PoolPair
+  pub slots : List SlotCell
+
+-- the cells that they are
+abbrev pub cells_of : Owned → Cells
+cells_of o = record { node = slice_get o.nodes; pool = Some o.pool; slot = slice_get o.slots }
+
+-- the same with another cell at a place
+abbrev pub owned_with_node : Owned → ℕ → NodePair → Owned
+owned_with_node o k w = record o { nodes = slice_set o.nodes k w }
+
+abbrev pub owned_with_pool : Owned → PoolPair → Owned
+owned_with_pool o w = record o { pool = w }
+
+abbrev pub owned_with_slot : Owned → ℕ → SlotCell → Owned
+owned_with_slot o k w = record o { slots = slice_set o.slots k w }
+
+-- exactly the cells of a shape are there, nothing is prepared, and they fit the opening
+pub record IsOpened (shape : Shape) (cs : Cells) : Type 0 where
+  pub all : HasAllCells shape cs
+  pub unprepared : IsUnprepared cs
+  pub fits : CellsFit shape opening (λ q. 0) cs
+  pub no_more_nodes : (m : ℕ) → length shape.places ≤ m → cs.node m ≡ None
+  pub no_more_slots : (t : ℕ) → length shape.places * shape.room ≤ t → cs.slot t ≡ None

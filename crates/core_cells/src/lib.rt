@@ -1,0 +1,23 @@
+//! The cells of the core: what nodes hold, what is free, and the registers; and boards, which lend them.
+#![tactic(auto)]
+
+mod board;
+mod cells;
+mod lent;
+mod marks;
+mod owned;
+mod pool;
+mod slice;
+mod step;
+#[cfg(test)]
+mod tests;
+
+pub use board::Board;
+pub use cells::{NodePair, PoolPair, SlotCell};
+pub use lent::{
+    forget_node, forget_pool, forget_slot, held_node, held_pool, prepare_node, prepare_pool,
+    settle_node, settle_pool, settle_slot,
+};
+pub use owned::OwnedCells;
+pub use pool::PoolCell;
+pub use step::{PairStep, SlotStep, on_slot, on_two};
