@@ -114,9 +114,9 @@ instr_of number extra =
 abbrev pub has_option : ℕ → ℕ → Bool
 has_option k options = ((options / (2 ^ k)) % 2) == 1
 
--- the numbers of the instructions that are built: those on one qubit that stays at its node
+-- the numbers of the instructions that are built: all known ones but ALLOCATE
 unfoldable pub is_built_instr : ℕ → Bool
-is_built_instr number = nat_le number 4 || nat_le 10 number && nat_le number 18 || number == 23
+is_built_instr number = nat_le number 8 || nat_le 10 number && nat_le number 18 || number == 20 || number == 21 || number == 23
 
 -- every other number is an unknown instruction
 abbrev pub is_unknown : ℕ → Bool

@@ -110,12 +110,19 @@ fn is_known(number: u8) -> bool
     is_built(number) && extra_size_of(number).is_some()
 }
 
-// Whether the instruction of a number is built: those on one qubit that stays at its node are.
+// Whether the instruction of a number is built: all known ones are but ALLOCATE.
 #[tactic(auto, unfolding(cqc_model::specs::Plan::is_built_instr))]
 fn is_built(number: u8) -> bool
     ensures { result ≡ is_built_instr number }
 {
-    matches!(number, number::I..=number::RESET | number::X..=number::K | number::RELEASE)
+    matches!(
+        number,
+        number::I..=number::EPR_RECV
+            | number::X..=number::K
+            | number::CNOT
+            | number::CPHASE
+            | number::RELEASE
+    )
 }
 
 // The bytes of an instruction's extra header: a rotation's step, another qubit, or a remote application.
