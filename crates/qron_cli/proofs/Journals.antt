@@ -1,21 +1,20 @@
--- One entry more in the core's journal.
-use Rattle.std.proofs.Common.{◌≡◌, ℕ, ◌+◌, ◌<◌, List, [], ◌∷◌, ◌++◌, length, Option, Some, None, refl, sym, ap, subst, ◌∙◌, arith, length-append}
-use Rattle.std.specs.Prelude.{MatchOption, IfSome, is_some, if◌then◌else◌}
+-- The pipe's journal with one entry more, and the dice behind it.
+use Rattle.std.proofs.Common.{◌≡◌, ℕ, ◌+◌, ◌<◌, List, [], ◌∷◌, ◌++◌, length, Option, Some, None, Result, Ok, Err, sym, ap, subst, ◌∙◌, arith, length-append}
+use Rattle.std.specs.Prelude.{MatchOption, MatchResult, IfSome, is_some, if◌then◌else◌}
+use Rattle.std.proofs.lemmas.List.Elements.{All-append, All-cons, All-nil}
 use Rattle.std.proofs.lemmas.List.Sums.{sum_by-append}
-use Rattle.state_model.specs.Coefficient.{Coefficient}
-use Rattle.network_model.specs.Network.{opening}
-use Rattle.network_model.specs.History.{after}
+use Rattle.network_model.specs.declared.Call.{Call}
+use Rattle.network_model.specs.declared.CoreReply.{CoreReply}
 use Rattle.network_model.specs.declared.Entry.{Entry}
-use Rattle.network_model.proofs.Histories.{after-last, legal-last}
-use Rattle.network_model.proofs.Soundness.{legal_histories_are_sound}
+use Rattle.network_model.specs.declared.JournalFull.{JournalFull}
 use Rattle.session_model.specs.Turns.{words_taken}
 use Rattle.session_model.specs.Worded.{AreWordedFrom}
 use Rattle.session_model.proofs.Spoken.{words_push}
-use Rattle.qron_cli.specs.Node.{node_shape, Stands, Steps}
-use Rattle.qron_cli.specs.Core.{IsHistory, IsAtWord, journal_capacity}
+use Rattle.factored_core.specs.Core.{Journal, IsExecuted, WasFull}
+use Rattle.qron_cli.specs.Pipe.{IsPipeCall, IsPipeJournal, IsAtWord}
 
 -- the word that an entry drew is the next, and the dice moved on by it
-abbrev pub WordDrawn : Option ℕ → ℕ → ℕ → ℕ → Type 0
+abbrev WordDrawn : Option ℕ → ℕ → ℕ → ℕ → Type 0
 WordDrawn w next before now = MatchOption w (now ≡ before) (λ n. (n ≡ next) × (now ≡ before + 1))
 
 worded_from : (words : ℕ → ℕ) (taken : ℕ) (es : List Entry) (e : Entry) → AreWordedFrom words taken es
@@ -41,59 +40,61 @@ taken_is : (w : Option ℕ) (word before now : ℕ) → WordDrawn w word before 
 taken_is None word before now d = omega arith
 taken_is (Some n) word before now d = d.1
 
--- the history with one entry more
-pub grown : (h : Option ℕ) (list : List Coefficient) (h' : Option ℕ) (list' : List Coefficient) (words : ℕ → ℕ) (es : List Entry) (e : Entry) (before now : ℕ)
-    → IsHistory h list words es → Steps h list h' list' e → WordDrawn e.word (words before) before now → before ≡ words_taken es → length es < journal_capacity
-    → IsHistory h' list' words (es ++ e ∷ [])
-grown h list h' list' words es e before now kept steps drawn at few =
-    let step = steps (after node_shape es) (legal_histories_are_sound node_shape es (omega arith) kept.legal) kept.stands in
-    record {
-      legal = legal-last node_shape es e kept.legal (step.0);
-      stands = subst (λ s. Stands s h' list') (sym (after-last node_shape es e)) (step.1);
-      worded = worded_from words 0 es e kept.worded
-          (subst (λ (n : ℕ). IfSome e.word (λ w. w ≡ words n)) (at ∙ simple (words_taken es)) (next_is e.word (words before) before now drawn));
-      few = omega (arith, length-append es (e ∷ []));
-    }
-  where
-    simple : (n : ℕ) → n ≡ 0 + n
-    simple n = omega arith
-
--- the dice behind it
-pub moved_on : (es : List Entry) (e : Entry) (seat serial word before now : ℕ) → IsAtWord seat serial before (words_taken es) → WordDrawn e.word word before now
-    → IsAtWord seat serial now (words_taken (es ++ e ∷ []))
-moved_on es e seat serial word before now at drawn = record {
-  first_seat = at.first_seat;
-  first_serial = at.first_serial;
-  next = taken_is e.word word before now drawn ∙ ap (λ (n : ℕ). n + (if is_some e.word then 1 else 0)) at.next ∙ sym (words_push es e);
-}
-
--- no entry yet
-pub none_yet : (h : Option ℕ) (list : List Coefficient) (words : ℕ → ℕ) (es : List Entry) → h ≡ None → es ≡ [] → IsHistory h list words es
-unfolding after opening
-none_yet h list words es none empty =
-    subst (λ (o : Option ℕ). IsHistory o list words es) (sym none)
-    (subst (λ (l : List Entry). IsHistory None list words l) (sym empty)
-    (record { legal = tt; stands = record { live = refl; held = refl; waiting = refl; part = tt }; worded = tt; few = omega arith }))
-
-pub not_moved : (seat serial taken : ℕ) (es : List Entry) → seat ≡ 0 → serial ≡ 0 → taken ≡ 0 → es ≡ [] → IsAtWord seat serial taken (words_taken es)
-not_moved seat serial taken es a b c empty = record { first_seat = a; first_serial = b; next = c ∙ sym (ap words_taken empty) }
-
 -- the word of the dice, of the connection that they were begun with
-pub word_of : (w : Option ℕ) (f : ℕ → ℕ → ℕ → ℕ) (seat serial before now : ℕ) → seat ≡ 0 → serial ≡ 0
-    → MatchOption w (now ≡ before) (λ n. (n ≡ f seat serial before) × (now ≡ before + 1)) → WordDrawn w (f 0 0 before) before now
+word_of : (w : Option ℕ) (f : ℕ → ℕ → ℕ → ℕ) (seat serial before now : ℕ) → seat ≡ 0 → serial ≡ 0
+    → WordDrawn w (f seat serial before) before now → WordDrawn w (f 0 0 before) before now
 word_of w f seat serial before now a b d =
     subst (λ (t : ℕ). WordDrawn w (f 0 t before) before now) b (subst (λ (s : ℕ). WordDrawn w (f s serial before) before now) a d)
 
--- the same words, with the key as it is now
-pub words_by : (h : Option ℕ) (list : List Coefficient) (f : List ℕ → ℕ → ℕ) (key now : List ℕ) (es : List Entry) → now ≡ key
-    → IsHistory h list (f key) es → IsHistory h list (f now) es
-words_by h list f key now es same kept = subst (λ (x : List ℕ). IsHistory h list (f x) es) (sym same) kept
+-- one entry more
+grown : (words : ℕ → ℕ) (old : Journal) (e : Entry) (before now : ℕ) → IsPipeJournal words old → IsPipeCall e.call → length old.entries < old.capacity
+    → WordDrawn e.word (words before) before now → before ≡ words_taken old.entries → IsPipeJournal words (record old { entries = old.entries ++ e ∷ [] })
+grown words old e before now kept ours room drawn at = record {
+  is = ap (λ (j : Journal). record j { entries = old.entries ++ e ∷ [] }) kept.is;
+  ours = All-append ours_all old.entries (e ∷ []) kept.ours (All-cons ours_all e [] ours (All-nil ours_all));
+  worded = worded_from words 0 old.entries e kept.worded
+      (subst (λ (n : ℕ). IfSome e.word (λ w. w ≡ words n)) (at ∙ simple (words_taken old.entries)) (next_is e.word (words before) before now drawn));
+  few = omega (arith, length-append old.entries (e ∷ []), room, ap Journal.capacity kept.is);
+}
+  where
+    ours_all : Entry → Type 0
+    ours_all x = IsPipeCall x.call
 
-pub entries_by : (h : Option ℕ) (list : List Coefficient) (words : ℕ → ℕ) (es now : List Entry) → now ≡ es → IsHistory h list words es → IsHistory h list words now
-entries_by h list words es now same kept = subst (λ (x : List Entry). IsHistory h list words x) (sym same) kept
+    simple : (n : ℕ) → n ≡ 0 + n
+    simple n = omega arith
 
-pub words_behind : (seat serial taken : ℕ) (es now : List Entry) → now ≡ es → IsAtWord seat serial taken (words_taken es) → IsAtWord seat serial taken (words_taken now)
-words_behind seat serial taken es now same at = subst (λ (x : List Entry). IsAtWord seat serial taken (words_taken x)) (sym same) at
+-- the journal and the dice behind a call
+pub executed : (f : ℕ → ℕ → ℕ → ℕ) (c : Call) (r : Result CoreReply JournalFull) (seat serial before now : ℕ) (old new : Journal)
+    → IsPipeCall c → IsPipeJournal (f 0 0) old → IsAtWord seat serial before (words_taken old.entries)
+    → MatchResult r (λ reply. IsExecuted c reply (f seat serial before) before now old new) (λ e. WasFull e old new × (now ≡ before))
+    → IsPipeJournal (f 0 0) new × IsAtWord seat serial now (words_taken new.entries)
+executed f c (Err e) seat serial before now old new ours kept at (was, same) = (
+  subst (IsPipeJournal (f 0 0)) (sym was.stays) kept,
+  subst (λ (j : Journal). IsAtWord seat serial now (words_taken j.entries)) (sym was.stays)
+      (record { first_seat = at.first_seat; first_serial = at.first_serial; next = same ∙ at.next }),
+)
+executed f c (Ok reply) seat serial before now old new ours kept at done =
+    let e : Entry = record { call = c; word = done.word; reply = reply } in
+    let drawn = word_of done.word f seat serial before now at.first_seat at.first_serial done.drawn in (
+      subst (IsPipeJournal (f 0 0)) (sym done.is) (grown (f 0 0) old e before now kept ours done.room drawn at.next),
+      subst (λ (j : Journal). IsAtWord seat serial now (words_taken j.entries)) (sym done.is) (record {
+        first_seat = at.first_seat;
+        first_serial = at.first_serial;
+        next = taken_is done.word (f 0 0 before) before now drawn ∙ ap (λ (n : ℕ). n + (if is_some done.word then 1 else 0)) at.next ∙ sym (words_push old.entries e);
+      }),
+    )
 
-pub at_as : (seat serial seat' serial' taken word : ℕ) → seat' ≡ seat → serial' ≡ serial → IsAtWord seat serial taken word → IsAtWord seat' serial' taken word
-at_as seat serial seat' serial' taken word a b at = record { first_seat = a ∙ at.first_seat; first_serial = b ∙ at.first_serial; next = at.next }
+-- the same with the dice's key, seat and serial as they are now
+pub by_key : (f : List ℕ → ℕ → ℕ) (key now : List ℕ) (seat serial seat' serial' taken : ℕ) (journal : Journal) → now ≡ key → seat' ≡ seat → serial' ≡ serial
+    → IsPipeJournal (f key) journal × IsAtWord seat serial taken (words_taken journal.entries)
+    → IsPipeJournal (f now) journal × IsAtWord seat' serial' taken (words_taken journal.entries)
+by_key f key now seat serial seat' serial' taken journal same a b (kept, at) = (
+  subst (λ (x : List ℕ). IsPipeJournal (f x) journal) (sym same) kept,
+  record { first_seat = a ∙ at.first_seat; first_serial = b ∙ at.first_serial; next = at.next },
+)
+
+-- dice that stay have taken as many words as before
+pub as_taken : {D : Type 0} (taken : D → ℕ) (r : Result CoreReply JournalFull) (P : CoreReply → Type 0) (Q : JournalFull → Type 0) (old new : D)
+    → MatchResult r P (λ f. Q f × (new ≡ old)) → MatchResult r P (λ f. Q f × (taken new ≡ taken old))
+as_taken taken (Ok x) P Q old new h = h
+as_taken taken (Err f) P Q old new h = (h.0, ap taken (h.1))

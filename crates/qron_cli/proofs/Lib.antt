@@ -1,10 +1,3 @@
-pub mod OneQubit
-pub mod OneStep
-pub mod OneGate
-pub mod OneMeasurement
-pub mod OneRefusal
-pub mod NodeSteps
 pub mod Journals
-pub mod Words
 pub mod Serving
-pub mod OneDraw
+pub mod Words

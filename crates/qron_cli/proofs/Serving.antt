@@ -17,8 +17,7 @@ use Rattle.session_model.proofs.Spoken.{own_front, spoken_entries_are_turns}
 use Rattle.qron_link.specs.Outside.{Rose}
 use Rattle.cqc_session.specs.Session.{EndCause}
 use Rattle.cqc_session.specs.Serving.{Served}
-use Rattle.qron_cli.specs.Node.{node_shape, pipe_connection}
-use Rattle.qron_cli.specs.Core.{journal_capacity}
+use Rattle.qron_cli.specs.Pipe.{node_shape, pipe_connection, journal_capacity}
 use Rattle.qron_cli.specs.Program.{PipeServed, PipeAnswered, status_of, pipe_setting, pipe_actor, read_limit}
 
 abbrev nobody : Option Call

@@ -1,5 +1,2 @@
-pub mod Core
-pub mod Qubit
-pub mod Node
-pub mod Refusals
+pub mod Pipe
 pub mod Program

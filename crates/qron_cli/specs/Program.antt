@@ -8,8 +8,7 @@ use Rattle.session_model.specs.Speaks.{Setting, Speaks}
 use Rattle.session_model.specs.Turns.{Actor, AreTurns, turn_call}
 use Rattle.session_model.specs.Worded.{AreWorded}
 use Rattle.qron_link.specs.Outside.{WasRead, WasWritten}
-use Rattle.qron_cli.specs.Node.{node_shape, pipe_connection}
-use Rattle.qron_cli.specs.Core.{journal_capacity}
+use Rattle.qron_cli.specs.Pipe.{node_shape, pipe_connection, journal_capacity}
 
 -- the words after the program's name are `pipe` alone
 abbrev pub AskPipe : List (List ℕ) → Type 0

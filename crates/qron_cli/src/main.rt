@@ -1,14 +1,16 @@
 //! Virtual quantum nodes over CQC.
 #![tactic(auto)]
 
+#[cfg(test)]
+mod circuit_tests;
 mod house;
-mod node;
-mod one_node;
+#[cfg(test)]
+mod mem_house;
+mod pipe_core;
 mod program;
-mod qubit;
-mod ranges;
 mod real;
-mod refusals;
+#[cfg(test)]
+mod tests;
 
 use crate::real::RealHouse;
 use qron_link::StdPipe;
@@ -36,6 +38,3 @@ fn main(rt: HostRuntime) -> ExitCode {
     let status = program::run(rt.alloc(), &words, &mut house);
     ExitCode::from(house.finish(status))
 }
-
-#[cfg(test)]
-mod tests;

@@ -3,11 +3,11 @@ ghost use Rattle.std.specs.Prelude.{◌≡◌, ◌≢◌, ℕ, ◌⊎◌, ◌↔
 ghost use Rattle.qron_link.specs.Outside.{Rose};
 ghost use Rattle.cqc_session.specs.Session.{EndCause};
 ghost use Rattle.cqc_session.specs.State.{begun};
-ghost use Rattle.qron_cli.specs.Node.{pipe_connection};
+ghost use Rattle.qron_cli.specs.Pipe.{pipe_connection};
 ghost use Rattle.qron_cli.specs.Program.{AskPipe, PipeServed, PipeAnswered, plain_seed, read_limit, status_of};
 
 use crate::house::House;
-use crate::one_node::OneNode;
+use crate::pipe_core::PipeCore;
 use cqc_session::{Session, serve};
 use qron_link::{Dice, Link};
 use session_model::Ending;
@@ -49,7 +49,7 @@ fn asks_pipe(words: &[String]) -> bool
 // A core and a session that has begun, with all the room that they ever take.
 #[derive(Drop)]
 struct Opened<D: Dice + Drop> {
-    core: OneNode<D>,
+    core: PipeCore<D>,
     session: Session,
 }
 
@@ -57,7 +57,7 @@ fn open<D: Dice + Drop>(alloc: Global, dice: D) -> Result<Opened<D>, AllocError>
     ensures core { IfOk result (λ o. o.core ≡ record { entries = []; key = D.key dice }) }
     ensures session { IfOk result (λ o. o.session ≡ begun pipe_connection read_limit) }
 {
-    let core = OneNode::new(alloc, dice)?;
+    let core = PipeCore::new(alloc, dice)?;
     let mut session = Session::new(alloc, 0, 0, READ_LIMIT)?;
     session.begin(0);
     Ok(Opened { core, session })

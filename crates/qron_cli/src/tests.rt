@@ -1,151 +1,9 @@
-// The program over a link in memory: what it answers to given bytes, words and faults.
-ghost use Rattle.std.specs.Prelude.{◌≡◌, ◌<◌, refl};
-
-use crate::house::House;
+// What the program answers to given bytes, words and faults.
+use crate::mem_house::{Given, MOST, MemHouse, faultless, run_with};
 use crate::program::run;
-use hex::{decode, encode};
-use qron_link::{Dice, MemLink};
-use std::alloc::Global;
+use hex::decode;
+use qron_link::MemLink;
 use std::test::Fail;
-
-// The largest word.
-const MOST: u64 = 18_446_744_073_709_551_615;
-
-// The same two words for every connection, and then 0 for ever.
-#[derive(Clone, Copy, Drop)]
-struct TwoWords {
-    words: [u64; 2],
-    seat: u16,
-    serial: u16,
-    taken: u64,
-}
-
-impl Dice for TwoWords {
-    ghost use Rattle.std.specs.Prelude.{slice_index};
-
-    ghost word = { λ key _ _ k. slice_index key k };
-
-    ghost key = { λ d. d.words };
-
-    ghost begun_seat = { λ d. d.seat };
-
-    ghost begun_serial = { λ d. d.serial };
-
-    ghost taken = { λ d. d.taken };
-
-    fn begin(&mut self, seat: u16, serial: u16) {
-        self.seat = seat;
-        self.serial = serial;
-        self.taken = 0;
-    }
-
-    fn next(&mut self) -> u64 {
-        let place = self.taken as usize;
-        self.taken += 1;
-        if place < 2 { self.words[place] } else { 0 }
-    }
-}
-
-#[derive(Drop)]
-struct MemHouse {
-    pipe: MemLink,
-    words: [u64; 2],
-    said: Vec<u8>,
-}
-
-impl House for MemHouse {
-    type Pipe = MemLink;
-
-    type Dice = TwoWords;
-
-    ghost pipe_of = { λ h. h.pipe };
-
-    ghost with_pipe = { λ h p. record h { pipe = p } };
-
-    ghost house_faults = { λ _. 0 };
-
-    ghost keys = { λ h _. h.words };
-
-    ghost pipe_is_put = { λ _ _. refl };
-
-    ghost keys_stay = { λ _ _. refl };
-
-    ghost faults_stay = { λ _ _. refl };
-
-    fn pipe(&mut self) -> &mut MemLink {
-        &mut self.pipe
-    }
-
-    fn dice(&mut self, _seed: &[u8; 32]) -> TwoWords {
-        TwoWords {
-            words: self.words,
-            seat: 0,
-            serial: 0,
-            taken: 0,
-        }
-    }
-
-    fn complain(&mut self, line: &[u8]) {
-        let _ = self.said.extend_from_slice(line);
-    }
-}
-
-// What the pipe is given: bytes in hexadecimal, the numbers of the reads and of the writes that fail, and the dice's words.
-#[derive(Clone, Copy)]
-struct Given {
-    input: &'static str,
-    bad_read: Option<u32>,
-    bad_write: Option<u32>,
-    words: [u64; 2],
-}
-
-fn faultless(input: &'static str, words: [u64; 2]) -> Given {
-    Given {
-        input,
-        bad_read: None,
-        bad_write: None,
-        words,
-    }
-}
-
-// The program's status, what it wrote, in hexadecimal, and what it complained.
-#[derive(Drop)]
-struct Answer {
-    status: u8,
-    output: String,
-    said: Vec<u8>,
-}
-
-// What the program does with these words, with reads of at most a piece.
-fn run_with(alloc: Global, given: Given, args: &[&str], piece: u32) -> Result<Answer, Fail>
-    requires { 0 < piece }
-{
-    let mut bad_reads = Vec::new(alloc);
-    if let Some(number) = given.bad_read {
-        bad_reads.push(number)?;
-    }
-    let mut bad_writes = Vec::new(alloc);
-    if let Some(number) = given.bad_write {
-        bad_writes.push(number)?;
-    }
-    let input = decode(alloc, given.input)?;
-    let pipe = MemLink::new(alloc, input, piece, 256, bad_reads, bad_writes)?;
-    let mut house = MemHouse {
-        pipe,
-        words: given.words,
-        said: Vec::new(alloc),
-    };
-    let mut words = Vec::new(alloc);
-    for word in args {
-        words.push(String::from_str(alloc, word)?)?;
-    }
-    let status = run(alloc, &words, &mut house);
-    Ok(Answer {
-        status,
-        output: encode(alloc, house.pipe.written())?,
-        said: house.said,
-    })
-}
 
 #[test]
 fn hello_and_commands_are_answered(rt: HostRuntime) -> Result<(), Fail> {
@@ -192,11 +50,11 @@ fn hello_and_commands_are_answered(rt: HostRuntime) -> Result<(), Fail> {
             [MOST, 0],
             "020a0000000000020000020700000000000100020a0000000000020000020700000000000101",
         ),
-        // a second qubit has no room, and nothing follows the error
+        // a second qubit has the next id
         (
             "020100000000000c000001010000010100001101",
             [0, 0],
-            "020a00000000000200000215000000000000",
+            "020a0000000000020000020a00000000000200010204000000000000",
         ),
         // no qubit is held
         (
@@ -209,7 +67,13 @@ fn hello_and_commands_are_answered(rt: HostRuntime) -> Result<(), Fail> {
     ];
     for (input, words, output) in cases {
         for piece in [1, 2, 7, 65_536] {
-            let answer = run_with(rt.alloc(), faultless(input, words), &["pipe"], piece)?;
+            let answer = run_with(
+                rt.alloc(),
+                decode(rt.alloc(), input)?,
+                faultless(words),
+                &["pipe"],
+                piece,
+            )?;
             assert_eq!(rt; answer.status, 0, "{input}");
             assert_eq!(rt; answer.output.as_str(), output, "{input}");
         }
@@ -271,7 +135,13 @@ fn every_instruction_on_one_qubit_is_answered(rt: HostRuntime) -> Result<(), Fai
         ),
     ];
     for (input, words, output) in cases {
-        let answer = run_with(rt.alloc(), faultless(input, words), &["pipe"], 7)?;
+        let answer = run_with(
+            rt.alloc(),
+            decode(rt.alloc(), input)?,
+            faultless(words),
+            &["pipe"],
+            7,
+        )?;
         assert_eq!(rt; answer.status, 0, "{input}");
         assert_eq!(rt; answer.output.as_str(), output, "{input}");
     }
@@ -298,7 +168,13 @@ fn refused_messages_have_one_error(rt: HostRuntime) -> Result<(), Fail> {
     ];
     for (input, output) in cases {
         for piece in [1, 7] {
-            let answer = run_with(rt.alloc(), faultless(input, [0, 0]), &["pipe"], piece)?;
+            let answer = run_with(
+                rt.alloc(),
+                decode(rt.alloc(), input)?,
+                faultless([0, 0]),
+                &["pipe"],
+                piece,
+            )?;
             assert_eq!(rt; answer.status, 0, "{input}");
             assert_eq!(rt; answer.output.as_str(), output, "{input}");
         }
@@ -315,7 +191,13 @@ fn cut_input_ends_with_a_status(rt: HostRuntime) -> Result<(), Fail> {
         ("020000070000000002", "0200000700000000"),
     ];
     for (input, output) in cases {
-        let answer = run_with(rt.alloc(), faultless(input, [0, 0]), &["pipe"], 2)?;
+        let answer = run_with(
+            rt.alloc(),
+            decode(rt.alloc(), input)?,
+            faultless([0, 0]),
+            &["pipe"],
+            2,
+        )?;
         assert_eq!(rt; answer.status, 5, "{input}");
         assert_eq!(rt; answer.output.as_str(), output, "{input}");
         assert!(rt; answer.said.is_empty(), "{input}");
@@ -325,7 +207,7 @@ fn cut_input_ends_with_a_status(rt: HostRuntime) -> Result<(), Fail> {
 
 #[test]
 fn faults_are_told(rt: HostRuntime) -> Result<(), Fail> {
-    let new = faultless("020100000000000400000101", [0, 0]);
+    let new = "020100000000000400000101";
     // the first read, the first write and the second
     let cases = [
         (Some(0), None, ""),
@@ -336,9 +218,9 @@ fn faults_are_told(rt: HostRuntime) -> Result<(), Fail> {
         let faulty = Given {
             bad_read,
             bad_write,
-            ..new
+            words: [0, 0],
         };
-        let answer = run_with(rt.alloc(), faulty, &["pipe"], 7)?;
+        let answer = run_with(rt.alloc(), decode(rt.alloc(), new)?, faulty, &["pipe"], 7)?;
         assert_eq!(rt; answer.status, 4, "{output}");
         assert_eq!(rt; answer.output.as_str(), output);
         assert_eq!(rt; answer.said.as_slice(), b"qron: fault".as_slice());
@@ -348,10 +230,16 @@ fn faults_are_told(rt: HostRuntime) -> Result<(), Fail> {
 
 #[test]
 fn other_words_are_refused(rt: HostRuntime) -> Result<(), Fail> {
-    let hello = faultless("0200000700000000", [0, 0]);
+    let hello = "0200000700000000";
     let none: [&str; 0] = [];
     for args in [none.as_slice(), &["dance"], &["--help"], &["pipe", "x"]] {
-        let answer = run_with(rt.alloc(), hello, args, 7)?;
+        let answer = run_with(
+            rt.alloc(),
+            decode(rt.alloc(), hello)?,
+            faultless([0, 0]),
+            args,
+            7,
+        )?;
         assert_eq!(rt; answer.status, 2);
         assert_eq!(rt; answer.output.as_str(), "");
         assert_eq!(rt; answer.said.as_slice(), b"qron: words".as_slice());

@@ -1,5 +1,5 @@
 use Rattle.std.proofs.Common.{ℕ, List, sym, ap, ◌∙◌}
-use Rattle.qron_cli.specs.Core.{Journal}
+use Rattle.qron_cli.specs.Pipe.{PipeEntries}
 use Rattle.qron_cli.proofs.Serving.{answered, fault_rose, rose_at}
 use Rattle.qron_cli.proofs.program.run_pipe.Goals as goal
 
@@ -9,7 +9,7 @@ returns-clause-served g c = λ other.
     let before = c.pipe.ensures.value ∙ c.dice-dice.ensures.pipe in
     let behind = sym (c.tell.ensures.pipe ∙ g.met.H.House.pipe_is_put _ _) in
     answered (λ (key : List ℕ) (k : ℕ). g.H.Dice.Dice.word key 0 0 k) _ _ _ _ _ _ _ _ _ _ s.result c.tell.result s.ensures.served
-    (ap (λ (j : Journal). j.key) c.in-Ok.ensures.core ∙ c.dice-dice.ensures.key)
+    (ap (λ (j : PipeEntries). j.key) c.in-Ok.ensures.core ∙ c.dice-dice.ensures.key)
     (ap g.H.Pipe.Source.left before) (ap g.H.Pipe.Source.left behind) (ap g.H.Pipe.Sink.held before) (ap g.H.Pipe.Sink.held behind) c.tell.ensures.status
 
 pub returns-clause-fault : goal.returns-clause-fault

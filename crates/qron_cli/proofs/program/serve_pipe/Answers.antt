@@ -1,7 +1,7 @@
 use Rattle.std.proofs.Common.{ℕ, List, length, subst}
 use Rattle.cqc_session.specs.State.{State}
 use Rattle.cqc_session.specs.Serving.{Served}
-use Rattle.qron_cli.specs.Core.{journal_capacity}
+use Rattle.qron_cli.specs.Pipe.{journal_capacity}
 use Rattle.qron_cli.specs.Program.{PipeServed}
 use Rattle.qron_cli.proofs.Serving.{served_pipe}
 use Rattle.qron_cli.proofs.program.serve_pipe.Goals as goal

@@ -1,0 +1,241 @@
+-- A new pair, prepared in the least free slot, one half held and the other the last arrival of another node, is the step of the call.
+use Rattle.std.proofs.Common.{ℕ, ◌≡◌, ◌≢◌, ◌<◌, ◌≤◌, ◌==◌, true, false, not, ◌&&◌, ◌||◌, [], ◌∷◌, slice_get, Option, Some, None, IsSome, unwrap_or, refl, sym, ap, subst, ◌∙◌}
+use Rattle.state_model.specs.Row.{is_listed}
+use Rattle.state_model.specs.Amplitudes.{Amplitudes}
+use Rattle.state_model.specs.Registers.{register_vector}
+use Rattle.state_model.proofs.Booleans.{or_false}
+use Rattle.state_model.proofs.SameStates.{same_reflexive}
+use Rattle.amplitude_register.specs.States.{RegisterState, next_value, pair_state}
+use Rattle.cqc_model.specs.declared.Instr.{Instr}
+use Rattle.cqc_model.specs.declared.Instr.TheVariants.{Epr}
+use Rattle.cqc_model.specs.declared.PairInfo.{PairInfo}
+use Rattle.cqc_model.specs.declared.Remote.{Remote}
+use Rattle.network_model.specs.Network.{Network, Shape}
+use Rattle.network_model.specs.Step.{fails, gate_of, two_of, remote_of, remote_node, is_measurement, effect, least_free, pair_info}
+use Rattle.network_model.specs.History.{advance, is_error}
+use Rattle.network_model.specs.Factored.{FitsNode, FitsPool, FitsSlot, touches_slot, touches_pool, used_slots, homes_step, homes_by, effect_touches_slot, effect_touches_pool}
+use Rattle.network_model.specs.declared.Call.{Call}
+use Rattle.network_model.specs.declared.CoreReply.TheVariants as reply
+use Rattle.network_model.specs.declared.Place.{Place}
+use Rattle.qubit_handles.specs.Handle.{AreDistinct}
+use Rattle.virtual_node.specs.Node.{Node, load_of, held_map, arrived_map, with_handle, with_arrival}
+use Rattle.epr_transfer.specs.Transfer.{handle_of, half_for, next_id}
+use Rattle.cell_laws.specs.Standing.{IsStanding}
+use Rattle.cell_laws.proofs.NewSlots.{pair_list}
+use Rattle.cell_laws.proofs.StepSlots.{pair_step}
+use Rattle.core_cells.specs.Pool.{Pool}
+use Rattle.core_cells.specs.Cells.{Cells, CellsFit, put_node, put_pool}
+use Rattle.core_cells.specs.declared.cells.NodePair.{NodePair}
+use Rattle.core_cells.specs.declared.cells.PoolPair.{PoolPair}
+use Rattle.core_cells.specs.declared.cells.SlotCell.{SlotCell}
+use Rattle.factored_core.specs.Changes.{Changes, no_changes, changed, with_next_slot, AreNamed, IsStepBy, ChangesFit, IsPreparedStep, register_with}
+use Rattle.factored_core.specs.Needs.{may_touch_pool, other_of}
+use Rattle.factored_core.specs.Ready.{IsReady}
+use Rattle.factored_core.specs.Replies.{in_new_slot}
+use Rattle.factored_core.specs.Slots.{HasPrepared, IsPreparedAs}
+use Rattle.factored_core.specs.Vacancies.{IsTaken, IsPairTaken, info_of}
+use Rattle.factored_core.specs.declared.transfers.Vacancy.{Vacancy}
+use Rattle.factored_core.specs.declared.transfers.PairVacancy.{PairVacancy}
+use Rattle.factored_core.proofs.Presence.{there_new, this_node}
+use Rattle.factored_core.proofs.Changed.{some_there, changed-none, changed-slot_at, node_prepared, pool_prepared, node_still, there_is}
+use Rattle.factored_core.proofs.ChangeLists.{change_nil, change_cons, number_one}
+use Rattle.factored_core.proofs.FaultLemmas.{other_is_remote, other_within}
+use Rattle.factored_core.proofs.GateSteps.{said}
+use Rattle.factored_core.proofs.Legal.{reply_done, legal_entry, other_draws_none, no_gate_is_small}
+use Rattle.factored_core.proofs.Loads.{same_load}
+use Rattle.factored_core.proofs.NodeSteps.{node_paired_own, node_paired_other, reply_paired, pair_info_is}
+use Rattle.factored_core.proofs.Operands.{none_refuses, own_fits}
+use Rattle.factored_core.proofs.PoolSteps.{pool_pair, second_number_is, second_left}
+use Rattle.factored_core.proofs.SendSteps.{other_there, other_fits}
+use Rattle.factored_core.proofs.Touched.{done_touches, with_other, numbers_of, nodes_are}
+use Rattle.factored_core.proofs.Vacant.{own_room, own_there, pool_there, copy_fits, slot_there, vacant_number, vacant_slot, less_numbers, less_slots}
+
+no_some : {A : Type 0} (a : A) → None ≡ Some a → ⊥
+no_some a e = cc
+
+number_same : (m n : ℕ) → Some m ≡ Some n → m ≡ n
+number_same m n e = ap (λ o. unwrap_or o n) e
+
+same_pool : (p q : Pool) → Some p ≡ Some q → p ≡ q
+same_pool p q e = ap (λ o. unwrap_or o q) e
+
+-- a new pair can touch the pool
+pub pair_touches : (i : Instr) (r : Remote) → i ≡ Epr r → may_touch_pool i ≡ true
+pair_touches i r is = ap may_touch_pool is ∙ unfold may_touch_pool in refl
+
+-- a copy that was made after another read
+pub copied_along : (cs before : Cells) → before ≡ cs → (k : ℕ) (to : Node) → ((w : NodePair) → before.node k ≡ Some w → to ≡ w.now) → (w : NodePair) → cs.node k ≡ Some w → to ≡ w.now
+copied_along cs before same k to copied w e = copied w (ap (λ (d : Cells). d.node k) same ∙ e)
+
+module _ (shape : Shape) (c : Call) (cs : Cells) (own : Node) (ready : IsReady shape c cs own) (r : Remote) (is : c.command.instr ≡ Epr r)
+    (other : ℕ) (there : other_of shape c ≡ Some other) (to : Node) (copied_to : (w : NodePair) → cs.node other ≡ Some w → to ≡ w.now)
+    (p : Pool) (copied : (w : PoolPair) → cs.pool ≡ Some w → p ≡ w.now) where
+  touch : may_touch_pool c.command.instr ≡ true
+  touch = pair_touches c.command.instr r is
+
+  remote_is : remote_of c.command.instr ≡ Some r
+  remote_is = ap remote_of is ∙ unfold remote_of in refl
+
+  away : (remote_node shape c r ≡ other) × (other ≢ c.node)
+  away = other_is_remote shape c r other remote_is there
+
+  -- a second number is free
+  pub second_free : load_of own < shape.room → AreDistinct own.handles → load_of to < shape.room → AreDistinct to.handles → (v : Vacancy) (mid : Pool) → IsTaken v p mid → (q : ℕ) × (is_listed mid.numbers q ≡ true)
+  second_free room distinct room_to distinct_to v mid taken =
+      let t = ready.stands in (
+        least_free (v.number ∷ (t.state).live),
+        second_left shape t.state t.home p.numbers p.slots p.pairs (t.standing).sound (copy_fits shape c cs own ready touch p copied t.state t.home t.fit) c.node (ready.allowed).node
+            (own_room shape c cs own ready t.state t.home t.standing t.fit distinct room) other (other_within shape c other there) (λ e. (away.1) (sym e))
+            (subst (λ (n : ℕ). n < shape.room) (sym (same_load t.state other to (other_fits shape c cs own ready other there to copied_to t.state t.home t.fit) shape (t.standing).sound distinct_to)) room_to)
+            v.number mid.numbers taken.numbers,
+      )
+
+  module _ (v : PairVacancy) (after : Pool) (taken : IsPairTaken v p after) (id : ℕ) (id_is : id ≡ next_id own c.app) (info : PairInfo) (place : Place) (placed : slice_get shape.places c.node ≡ Some place) (told : info ≡ info_of place c r v.pair) where
+    abbrev given : Node
+    given = with_handle own (handle_of c.app id v.first.number)
+
+    abbrev half : Node
+    half = with_arrival to (half_for r.app v.second info)
+
+    abbrev a : Amplitudes
+    a = pair_state v.first.number v.second
+
+    abbrev paired : Changes
+    paired = record { nodes = with_other c.node given (Some other) half; pool = Some after; slots = (v.first.slot, a) ∷ [] }
+
+    no_gate : gate_of c.command.instr ≡ None
+    no_gate = ap gate_of is ∙ unfold gate_of in refl
+
+    no_second : two_of c.command.instr ≡ None
+    no_second = ap two_of is ∙ unfold two_of in refl
+
+    no_word : is_measurement c.command.instr ≡ false
+    no_word = ap is_measurement is ∙ unfold is_measurement in refl
+
+    module _ (s : Network) (home : ℕ → ℕ) (standing : IsStanding shape s home) (fit : CellsFit shape s home cs) where
+      free_fits : FitsPool shape s home p.numbers p.slots p.pairs
+      free_fits = copy_fits shape c cs own ready touch p copied s home fit
+
+      number : v.first.number ≡ least_free s.live
+      number = vacant_number shape c cs own ready touch p copied v.first taken.mid taken.first s home standing fit
+
+      slot : v.first.slot ≡ least_free (used_slots s.live home)
+      slot = vacant_slot shape c cs own ready touch p copied v.first taken.mid taken.first s home standing fit
+
+      second : v.second ≡ least_free (least_free s.live ∷ s.live)
+      second =
+          second_number_is shape s home p.numbers p.slots p.pairs standing.sound free_fits v.first.number (taken.mid).numbers (taken.first).numbers v.second (taken.second_least).listed (taken.second_least).least
+          ∙ ap (λ n. least_free (n ∷ s.live)) number
+
+      here : FitsNode s c.node (held_map own) (arrived_map own)
+      here = own_fits shape c cs own ready s home standing fit
+
+      info_same : info ≡ pair_info shape s c r
+      info_same = told ∙ pair_info_is shape s c 0 r place v.pair placed (taken.pair ∙ free_fits.made)
+
+      reply_is : (effect shape s c 0).reply ≡ reply.Pair id info
+      reply_is = reply_paired shape s c 0 own here r is ∙ ap (λ i. reply.Pair i (pair_info shape s c r)) (sym id_is) ∙ ap (reply.Pair id) (sym info_same)
+
+      slot_is : (t : ℕ) → effect_touches_slot s home c t c.command.instr ≡ (v.first.slot == t)
+      slot_is t = ap (effect_touches_slot s home c t) is ∙ unfold effect_touches_slot in (ap (λ n. n == t) (sym slot))
+
+      touches : effect_touches_pool s c c.command.instr ≡ true
+      touches = ap (effect_touches_pool s c) is ∙ unfold effect_touches_pool in refl
+
+      pool_fits : FitsPool shape ((effect shape s c 0).state) (homes_by s home c c.command.instr) after.numbers after.slots after.pairs
+      pool_fits =
+          subst (λ (n : ℕ). FitsPool shape ((effect shape s c 0).state) (homes_by s home c c.command.instr) after.numbers after.slots n) (sym taken.pairs)
+          (pool_pair shape s home c 0 p.numbers p.slots p.pairs standing.sound standing.housed free_fits r is (taken.mid).numbers after.numbers after.slots
+          (less_numbers shape c cs own ready touch p copied v.first taken.mid taken.first s home standing fit)
+          (λ q. taken.numbers q ∙ ap (λ n. is_listed (taken.mid).numbers q && not (q == n)) second)
+          (λ t. ap (λ l. is_listed l t) taken.slots ∙ less_slots shape c cs own ready touch p copied v.first taken.mid taken.first s home standing fit t))
+
+      slot_fits : FitsSlot shape ((effect shape s c 0).state) (homes_by s home c c.command.instr) v.first.slot (register_with shape.limit a)
+      slot_fits =
+          subst (λ (t : ℕ). FitsSlot shape ((effect shape s c 0).state) (homes_by s home c c.command.instr) t (register_with shape.limit a)) (sym slot)
+          (subst (λ (n : ℕ). FitsSlot shape ((effect shape s c 0).state) (homes_by s home c c.command.instr) (least_free (used_slots s.live home)) (register_with shape.limit (pair_state n v.second))) (sym number)
+          (subst (λ (n : ℕ). FitsSlot shape ((effect shape s c 0).state) (homes_by s home c c.command.instr) (least_free (used_slots s.live home)) (register_with shape.limit (pair_state (least_free s.live) n))) (sym second)
+          (pair_step shape s home c standing 0 r is pair_list (same_reflexive (register_vector (least_free s.live ∷ least_free (least_free s.live ∷ s.live) ∷ []) pair_list)))))
+
+      made : ChangesFit shape s home (said c (reply.Pair id info)) paired
+      unfolding advance is_error homes_step touches_slot touches_pool
+      made = record {
+        nodes_touched = λ m. done_touches shape c m None (reply.Pair id info) refl ∙ ap (λ (o : Option ℕ). (c.node == m) || fails o (λ n. n == m)) there ∙ numbers_of c.node given (Some other) half m;
+        pool_touched = touches;
+        slots_touched = λ t. slot_is t ∙ sym (number_one v.first.slot a t);
+        nodes = nodes_are (λ m n. FitsNode ((effect shape s c 0).state) m (held_map n) (arrived_map n)) c.node given (Some other) half
+            (node_paired_own shape s c 0 own here r is (λ e. (away.1) (sym (away.0) ∙ e)) id v.first.number id_is number)
+            (λ n e. subst (λ (k : ℕ). FitsNode ((effect shape s c 0).state) k (held_map half) (arrived_map half)) (number_same other n e)
+            (node_paired_other shape s c 0 other to (other_fits shape c cs own ready other there to copied_to s home fit) r (away.0) (away.1) is v.second info second info_same));
+        pool = λ q e. subst (λ (x : Pool). FitsPool shape ((effect shape s c 0).state) (homes_by s home c c.command.instr) x.numbers x.slots x.pairs) (same_pool after q e) pool_fits;
+        slots = change_cons (λ t b. FitsSlot shape ((effect shape s c 0).state) (homes_by s home c c.command.instr) t (register_with shape.limit b)) v.first.slot a []
+            slot_fits
+            (change_nil (λ t b. FitsSlot shape ((effect shape s c 0).state) (homes_by s home c c.command.instr) t (register_with shape.limit b)));
+      }
+
+    pair_done : IsStepBy shape cs paired (said c (reply.Pair id info))
+    pair_done s home standing fit = (
+      legal_entry shape s c None (reply.Pair id info) ready.range (ready.allowed).node (ready.allowed).instr (λ n e. absurd (no_some n e)) (sym (other_draws_none s c no_word))
+          (reply_done shape s c 0 (reply.Pair id info) (none_refuses shape c cs own ready s home standing fit no_second) (no_gate_is_small shape s c no_gate no_second) (sym (reply_is s home standing fit))),
+      made s home standing fit,
+    )
+
+    named_pair : AreNamed (in_new_slot c (reply.Pair id info) (Some other) v.first.slot) paired
+    named_pair = record {
+      nodes = numbers_of c.node given (Some other) half;
+      pool = refl;
+      slots = λ u. or_false (v.first.slot == u) ∙ sym (number_one v.first.slot a u);
+    }
+
+    -- ---- on the board
+    module _ (before one : Cells) (same : before ≡ cs) (put_pool_one : (w : PoolPair) → before.pool ≡ Some w → one ≡ put_pool before (record w { next = Some after })) where
+      pooled : one ≡ changed cs (record no_changes { pool = Some after })
+      pooled = pool_prepared cs before one no_changes after (same ∙ changed-none cs ready.unprepared) (pool_there shape c cs own ready touch) put_pool_one
+
+      pub pair_leaves_own : IsSome (one.node c.node)
+      pair_leaves_own = node_still cs one (record no_changes { pool = Some after }) c.node pooled (own_there shape c cs own ready)
+
+      module _ (two : Cells) (next : Node) (next_is : next ≡ given) (put_own : (w : NodePair) → one.node c.node ≡ Some w → two ≡ put_node one c.node (record w { next = Some next })) where
+        abbrev first_half : Changes
+        first_half = record { nodes = (c.node, given) ∷ []; pool = Some after; slots = [] }
+
+        held : two ≡ changed cs first_half
+        held = node_prepared cs one two (record no_changes { pool = Some after }) c.node given pooled (own_there shape c cs own ready)
+            (λ w e. put_own w e ∙ ap (λ (n : Node). put_node one c.node (record w { next = Some n })) next_is)
+
+        pub pair_leaves_other : IsSome (two.node other)
+        pair_leaves_other = node_still cs two first_half other held (other_there shape c cs own ready other there)
+
+        module _ (three : Cells) (arrived : Node) (arrived_is : arrived ≡ half) (put_other : (w : NodePair) → two.node other ≡ Some w → three ≡ put_node two other (record w { next = Some arrived })) where
+          abbrev halves : Changes
+          halves = record { nodes = with_other c.node given (Some other) half; pool = Some after; slots = [] }
+
+          shared : three ≡ changed cs halves
+          shared = node_prepared cs two three first_half other half held (other_there shape c cs own ready other there)
+              (λ w e. put_other w e ∙ ap (λ (n : Node). put_node two other (record w { next = Some n })) arrived_is)
+
+          slot_is_there : (w : SlotCell) × (cs.slot v.first.slot ≡ Some w)
+          slot_is_there = there_is (cs.slot v.first.slot) (slot_there shape c cs own ready touch p copied v.first taken.mid taken.first)
+
+          pub pair_leaves_slot : 2 ≤ shape.limit → (w : SlotCell) × (three.slot v.first.slot ≡ Some w) × (2 ≤ w.register.limit)
+          pair_leaves_slot limit =
+              let w = slot_is_there in
+              let t = ready.stands in (
+                with_next_slot None (w.0),
+                ap (λ (d : Cells). d.slot v.first.slot) shared ∙ changed-slot_at cs halves v.first.slot (w.0) (w.1),
+                subst (λ (n : ℕ). 2 ≤ n) (sym ((t.fit).slots v.first.slot (w.0) (w.1)).limit) limit,
+              )
+
+          pub pair_prepared : (new : Cells) → HasPrepared three new v.first.slot (IsPreparedAs a) → IsPreparedStep shape cs new (in_new_slot c (reply.Pair id info) (Some other) v.first.slot)
+          pair_prepared new h =
+              let w = slot_is_there in
+              let k = h cs halves shared (w.0) (w.1) in record {
+                changes = paired;
+                after =
+                    k.1.0 ∙ ap (λ (b : Amplitudes). changed cs (record { nodes = with_other c.node given (Some other) half; pool = Some after; slots = (v.first.slot, b) ∷ [] }))
+                    (ap (λ (x : RegisterState). next_value x.next) (k.1.1));
+                named = named_pair;
+                there = there_new cs (record { call = c; word = None; reply = reply.Pair id info }) (Some other) v.first.slot (own_there shape c cs own ready)
+                    (λ n i. this_node cs other n (other_there shape c cs own ready other there) i) (pool_there shape c cs own ready touch) (some_there (cs.slot v.first.slot) (w.0) (w.1));
+                step = pair_done;
+              }

@@ -1,0 +1,13 @@
+pub mod Changes
+pub mod Faults
+pub mod Finish
+pub mod Needs
+pub mod Slots
+pub mod Ranges
+pub mod Ready
+pub mod Measurements
+pub mod Replies
+pub mod Core
+pub mod Pairs
+pub mod Vacancies
+pub mod Preparing
