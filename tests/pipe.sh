@@ -44,6 +44,28 @@ repeat() { local text; text=$(printf "%$2s"); printf '%s' "${text// /$1}"; }
 expect 'a refused gate changes nothing' 0 ${new}0214000000000000020700000000000100 '' \
     "02010000000003b00000010000001100$(repeat 00000d0000001100 117)0201000000000421$(repeat 00001000e000001100 117)00000200" pipe
 
+# H and CNOT make pairs; the first words on them lie above and below one half, so one pair gives 0 twice and the next 1 twice
+second=020a0000000000020001
+outcome=0207000000000001
+bell=020100000000001a0000010000000100000011000000140000010000020000010200
+expect 'both qubits of a Bell pair have one outcome' 0 \
+    ${new}${second}${outcome}00${outcome}00${new}${second}${outcome}01${outcome}01 '' $bell$bell pipe
+
+# there is no node at port 8822; the qubit is still held afterwards
+expect 'SEND to an unknown place is refused with GENERAL' 0 ${new}0214000000000000${outcome}00 '' \
+    02010000000000100000010000000501000022767f000001020100000000000400000200 pipe
+
+# the examples, of app 7, as README shows them
+hello_7=0200000700000000
+new_7=020a0007000000020000
+second_7=020a0007000000020001
+outcome_7=0207000700000001
+done_7=0204000700000000
+expect 'examples/measure.cqc' 0 ${hello_7}${new_7}${outcome_7}00${done_7} '' "$(hex "$top/examples/measure.cqc")" pipe
+expect 'examples/bell.cqc' 0 \
+    ${hello_7}${new_7}${second_7}${outcome_7}00${outcome_7}00${new_7}${second_7}${outcome_7}01${outcome_7}01${done_7} '' \
+    "$(hex "$top/examples/bell.cqc")" pipe
+
 # a closed output is a fault
 bytes $hello | "$top/qron" pipe >&- 2>"$room/err"
 got="${PIPESTATUS[1]} $(cat "$room/err")"
