@@ -11,8 +11,7 @@ if ! [ -e /usr/include/quantum.h ]; then
     apt-get update >"$room/apt.log" && apt-get install -y libquantum-dev >>"$room/apt.log"
 fi
 cc -O2 -fopenmp "$root/bench/gates_libquantum.c" -o "$room/theirs" -lquantum -lm
-(cd "$root/crates/gate_timing" && rt run >"$room/build.log" 2>&1) || { cat "$room/build.log"; exit 1; }
-cp "$root/crates/gate_timing/out/gate_timing" "$room/ours"
+"$root/bench/timing_program.sh" gate_timing "$room/ours"
 
 OMP_NUM_THREADS=1 python3 - "$room" <<'PYTHON'
 import os, subprocess, sys

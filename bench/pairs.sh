@@ -5,8 +5,7 @@ set -eu
 root=$(cd "$(dirname "$0")/.." && pwd)
 room=$(mktemp -d)
 trap 'rm -rf "$room"' EXIT
-(cd "$root/crates/core_timing" && rt run >"$room/build.log" 2>&1) || { cat "$room/build.log"; exit 1; }
-cp "$root/crates/core_timing/out/core_timing" "$room/ours"
+"$root/bench/timing_program.sh" core_timing "$room/ours"
 
 python3 - "$room" <<'PYTHON'
 import os, subprocess, sys
