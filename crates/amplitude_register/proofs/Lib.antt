@@ -11,7 +11,8 @@ pub mod Fields
 pub mod SealedDrafts
 pub mod RowPairs
 pub mod ChangedRows
-pub mod TwoGates
-pub mod PreparedRows
 pub mod Written
+pub mod TwoGates
+pub mod Runs
+pub mod PreparedRows
 pub mod FromValues

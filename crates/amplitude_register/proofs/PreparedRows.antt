@@ -12,9 +12,9 @@ use Rattle.amplitude_register.specs.declared.block.Block.{Block}
 use Rattle.amplitude_register.specs.declared.block.Stage.{Stage}
 use Rattle.amplitude_register.specs.declared.block.Stage.TheVariants.{Empty, Open, Weighed, Prepared}
 use Rattle.amplitude_register.proofs.Entries.{zero_omega}
-use Rattle.amplitude_register.proofs.Fields.{place_below, state, front, ready_state, ready_value, front_set, front_row, below_front, list_of}
+use Rattle.amplitude_register.proofs.Fields.{place_below, state, front, ready_state, ready_value, front_set, front_row, below_front, list_of, list_rows, same_front}
 use Rattle.amplitude_register.proofs.ChangedRows.{negated_row, swapped_rows, negated_total, swapped_total, negated_kept, swapped_kept, same_kept}
-use Rattle.amplitude_register.proofs.TwoGates.{two_reduced}
+use Rattle.state_model.proofs.TwoGateLists.{two_total, two_reduced}
 
 pub prepared_stage : (o : RegisterState) (l : ℕ) (v : Amplitudes) (s : Stage) (a : Amplitudes) → state l v (next_of s a) ≡ o → IsPrepared o.next → s ≡ Prepared
 prepared_stage o l v s a e h = by s (subst (λ (t : RegisterState). IsPrepared t.next) (sym e) h)
@@ -86,6 +86,13 @@ ready_place o l v s b place m h e p k = place_below o l v s b place m h e (ready
 
 pub ready_low : (o : RegisterState) (l : ℕ) (v : Amplitudes) (s : Stage) (b : Block) (place : ℕ) → l ≤ 12 → IsBlock l b → state l v (next_of s (amplitudes_of b)) ≡ o → IsPrepared o.next → place < length (next_value o.next).qubits → place < 12
 ready_low o l v s b place m h e p k = let q = ready_place o l v s b place m h e p k in let c = h.count in omega (arith, q, c, m)
+
+-- the block's list after such a gate has the same weight
+pub two_stepped : (k : Two) (i j limit : ℕ) (b : Block) (items : List Omega) → i ≢ j → IsBlock limit b → j < b.count → length items ≡ length b.entries.items
+    → IsTwoGateList k i j (list_of b) (map omega_value (take b.rows items)) → total_weight (map omega_value (take b.rows items)) ≡ total_weight (list_of b)
+two_stepped k i j limit b items apart h l room list =
+    let e = list_rows limit b h in
+    two_total k i j b.count (list_of b) (map omega_value (take b.rows items)) apart l e (same_front items b.entries.items b.rows room ∙ e) list
 
 -- what a gate of two qubits on the rows of the second block makes of the register
 pub two_step : (k : Two) (i j : ℕ) (o : RegisterState) (l : ℕ) (v : Amplitudes) (s : Stage) (qs : List ℕ) (xs ys : List Coefficient) → state l v (next_of s record { qubits = qs; list = xs }) ≡ o → IsPrepared o.next

@@ -1,81 +1,87 @@
--- Lists of which a gate of two qubits has changed the rows so far; such a gate keeps the weight and the common
--- divisors.
+-- Rows after a gate of two qubits, and lists of which it has changed the rows so far.
 use Rattle.std.proofs.Common.{◌≡◌, ◌≢◌, ℕ, ◌+◌, ◌<◌, ◌≤◌, ◌&&◌, Bool, true, false, not, cond, List, length, map, slice_index_or, slice_set, refl, sym, ap, subst, ◌∙◌, arith, ⊎_elim, get_or-set_same, get_or-set_other}
 use Rattle.std.proofs.lemmas.Bool.{cases_lt, cases_eq}
 use Rattle.std.proofs.lemmas.List.{length-set, length-map, map-set}
 use Rattle.state_model.specs.Coefficient.{Coefficient, zero_coefficient, negated}
-use Rattle.state_model.specs.CoefficientList.{at, IsReduced, total_weight}
-use Rattle.state_model.specs.Divisors.{Divides}
+use Rattle.state_model.specs.CoefficientList.{at}
 use Rattle.state_model.specs.Row.{is_set, with_bit, turned}
-use Rattle.state_model.specs.Amplitudes.{IsTwoGateList}
-use Rattle.state_model.specs.declared.Two.{Two}
+use Rattle.state_model.specs.Amplitudes.{IsTwoGateList, IsTwoGateRow}
 use Rattle.state_model.specs.declared.Two.TheVariants.{Cnot, Cphase}
 use Rattle.state_model.proofs.Booleans.{clash, both_true}
-use Rattle.state_model.proofs.RowLaws.{same_row, is_set-turned_same, is_set-turned_other, is_set-with_bit_same, is_set-with_bit_other}
+use Rattle.state_model.proofs.RowLaws.{is_set-with_bit_same, is_set-with_bit_other}
 use Rattle.state_model.proofs.Gates.{with_bit_again, with_own_bit}
+use Rattle.state_model.proofs.TwoGateLists.{turned_is, turned_at, source_row, source_at}
 use Rattle.omega_ring.specs.Views.{omega_value}
 use Rattle.omega_ring.specs.Range.{CoordinatesBelow}
 use Rattle.omega_ring.specs.declared.coefficients.Omega.{Omega}
 use Rattle.amplitude_register.specs.Multiples.{HasPlace}
 use Rattle.amplitude_register.proofs.Entries.{zero_omega, at_map, at_past}
+use Rattle.amplitude_register.proofs.Written.{read}
 use Rattle.amplitude_register.proofs.RowPairs.{value_at, pair_inside, pair_outside, low_of, low_of_high, high_other}
-use Rattle.amplitude_register.proofs.ChangedRows.{swapped_total, negated_total, swapped_rows, negated_row, divides_negated}
 
--- ---- the row that a row comes from
-abbrev pub source_row : ℕ → ℕ → ℕ → ℕ
-source_row control target row = cond (is_set control row) (turned target row) row
-
--- turning a bit is setting it to the other value
-turned_is : (q x : ℕ) → turned q x ≡ with_bit q (not (is_set q x)) x
-turned_is q x = same_row _ _ (λ p. ⊎_elim
-    (λ (e : p ≡ q). ap (λ n. is_set n (turned q x)) e ∙ is_set-turned_same q x ∙ sym (ap (λ n. is_set n (with_bit q (not (is_set q x)) x)) e ∙ is_set-with_bit_same q (not (is_set q x)) x))
-    (λ (e : p ≢ q). is_set-turned_other p q x e ∙ sym (is_set-with_bit_other p q (not (is_set q x)) x e))
-    (cases_eq p q))
-
-turned_at : (q x : ℕ) (b : Bool) → is_set q x ≡ b → turned q x ≡ with_bit q (not b) x
-turned_at q x b e = turned_is q x ∙ ap (λ (t : Bool). with_bit q (not t) x) e
-
-pub source_at : (i j r : ℕ) (b : Bool) → is_set i r ≡ b → source_row i j r ≡ cond b (turned j r) r
-source_at i j r b e = ap (λ (t : Bool). cond t (turned j r) r) e
-
-turned_twice : (q x : ℕ) → turned q (turned q x) ≡ x
-turned_twice q x = same_row _ _ (λ p. ⊎_elim
-    (λ (e : p ≡ q). ap (λ n. is_set n (turned q (turned q x))) e ∙ is_set-turned_same q (turned q x) ∙ ap not (is_set-turned_same q x) ∙ twice (is_set q x) ∙ ap (λ n. is_set n x) (sym e))
-    (λ (e : p ≢ q). is_set-turned_other p q (turned q x) e ∙ is_set-turned_other p q x e)
-    (cases_eq p q))
+-- ---- the row that a row comes from, and rows past the end
+pub source_inside : (i j rows r : ℕ) → HasPlace j rows → r < rows → source_row i j r < rows
+source_inside i j rows r place p = by (is_set i r) refl
   where
-    twice : (b : Bool) → not (not b) ≡ b
-    twice true = refl
-    twice false = refl
+    by : (b : Bool) → is_set i r ≡ b → source_row i j r < rows
+    by false e = let f = source_at i j r false e in omega (arith, f, p)
+    by true e = let f = source_at i j r true e ∙ turned_is j r in let k = pair_inside j rows r (not (is_set j r)) place p in omega (arith, f, k)
 
--- the row of the row is the row itself
-pub source_again : (i j r : ℕ) → i ≢ j → source_row i j (source_row i j r) ≡ r
-source_again i j r apart = by (is_set i r) refl
+source_outside : (i j rows r : ℕ) → HasPlace j rows → rows ≤ r → rows ≤ source_row i j r
+source_outside i j rows r place p = by (is_set i r) refl
   where
-    by : (b : Bool) → is_set i r ≡ b → source_row i j (source_row i j r) ≡ r
-    by true e = ap (source_row i j) (source_at i j r true e) ∙ source_at i j (turned j r) true (is_set-turned_other i j r apart ∙ e) ∙ turned_twice j r
-    by false e = ap (source_row i j) (source_at i j r false e) ∙ source_at i j r false e
+    by : (b : Bool) → is_set i r ≡ b → rows ≤ source_row i j r
+    by false e = let f = source_at i j r false e in omega (arith, f, p)
+    by true e = let f = source_at i j r true e ∙ turned_is j r in let k = pair_outside j rows r (not (is_set j r)) place p in omega (arith, f, k)
 
--- ---- what stays
--- a gate of two qubits brings in no common divisor
-pub two_reduced : (k : Two) (i j : ℕ) (xs ys : List Coefficient) → i ≢ j → IsTwoGateList k i j xs ys → IsReduced xs → IsReduced ys
-two_reduced Cnot i j xs ys apart is reduced u d = reduced u (λ r. subst (Divides u) (is (source_row i j r) ∙ ap (at xs) (source_again i j r apart)) (d (source_row i j r)))
-two_reduced Cphase i j xs ys apart is reduced u d = reduced u (λ r. by r (is_set i r) (is_set j r) (subst (Divides u) (is r) (d r)))
+pub exchanged_past : (i j : ℕ) (xs : List Omega) → HasPlace j (length xs) → (r : ℕ) → length xs ≤ r → IsTwoGateRow Cnot i j (map omega_value xs) r zero_coefficient
+exchanged_past i j xs place r p = sym (at_past xs (source_row i j r) (source_outside i j (length xs) r place p))
+
+abbrev pub phased : ℕ → ℕ → ℕ → Coefficient → Coefficient
+phased i j r z = cond (is_set i r) (cond (is_set j r) (negated z) z) z
+
+phased_off : (i j r : ℕ) (z : Coefficient) → (is_set i r && is_set j r) ≡ false → phased i j r z ≡ z
+phased_off i j r z e = by (is_set i r) (is_set j r) e
   where
-    by : (r : ℕ) (b c : Bool) → Divides u (cond b (cond c (negated (at xs r)) (at xs r)) (at xs r)) → Divides u (at xs r)
-    by r true true h = divides_negated u (at xs r) h
-    by r true false h = h
-    by r false c h = h
+    by : (b c : Bool) → (b && c) ≡ false → cond b (cond c (negated z) z) z ≡ z
+    by true true e = absurd (clash e)
+    by true false e = refl
+    by false c e = refl
+
+phased_on : (i j r : ℕ) (z : Coefficient) → (is_set i r && is_set j r) ≡ true → phased i j r z ≡ negated z
+phased_on i j r z e = by (is_set i r) (is_set j r) e
+  where
+    by : (b c : Bool) → (b && c) ≡ true → cond b (cond c (negated z) z) z ≡ negated z
+    by true true e = refl
+    by true false e = absurd (clash (sym e))
+    by false c e = absurd (clash (sym e))
+
+pub phased_past : (i j : ℕ) (xs : List Omega) (r : ℕ) → length xs ≤ r → IsTwoGateRow Cphase i j (map omega_value xs) r zero_coefficient
+phased_past i j xs r p = absent (is_set i r) (is_set j r) ∙ ap (phased i j r) (sym (at_past xs r p))
+  where
+    absent : (b c : Bool) → zero_coefficient ≡ cond b (cond c (negated zero_coefficient) zero_coefficient) zero_coefficient
+    absent true true = refl
+    absent true false = refl
+    absent false c = refl
+
+-- ---- one row, in one pass
+pub source_entry : (i j : ℕ) (xs : List Omega) (r k : ℕ) (z : Omega) → k ≡ source_row i j r → z ≡ slice_index_or xs k zero_omega → IsTwoGateRow Cnot i j (map omega_value xs) r (omega_value z)
+source_entry i j xs r k z e f = read xs k (source_row i j r) z e f
+
+pub phased_set : (i j : ℕ) (xs : List Omega) (r : ℕ) (z u : Omega) → (is_set i r && is_set j r) ≡ true → u ≡ slice_index_or xs r zero_omega → omega_value z ≡ negated (omega_value u) → IsTwoGateRow Cphase i j (map omega_value xs) r (omega_value z)
+phased_set i j xs r z u e f is = is ∙ ap negated (read xs r r u refl f) ∙ sym (phased_on i j r (at (map omega_value xs) r) e)
+
+pub phased_clear : (i j : ℕ) (xs : List Omega) (r : ℕ) (u : Omega) → (is_set i r && is_set j r) ≡ false → u ≡ slice_index_or xs r zero_omega → IsTwoGateRow Cphase i j (map omega_value xs) r (omega_value u)
+phased_clear i j xs r u e f = read xs r r u refl f ∙ sym (phased_off i j r (at (map omega_value xs) r) e)
 
 -- ---- the pairs whose low row is below n are exchanged where the control's bit is 1, and the others are the old ones
 pub record IsExchangedUntil (i j : ℕ) (xs ys : List Omega) (n : ℕ) : Type 0 where
   pub rows : length ys ≡ length xs
   pub done : (r : ℕ) → with_bit j false r < n → value_at ys r ≡ value_at xs (source_row i j r)
   pub rest : (r : ℕ) → n ≤ with_bit j false r → slice_index_or ys r zero_omega ≡ slice_index_or xs r zero_omega
-  pub weight : total_weight (map omega_value ys) ≡ total_weight (map omega_value xs)
 
 pub exchanged_none : (i j : ℕ) (xs : List Omega) → IsExchangedUntil i j xs xs 0
-exchanged_none i j xs = record { rows = refl; done = λ r l. absurd (omega arith); rest = λ r l. refl; weight = refl }
+exchanged_none i j xs = record { rows = refl; done = λ r l. absurd (omega arith); rest = λ r l. refl }
 
 -- a row is passed over
 pub exchanged_skip : (i j : ℕ) (xs ys : List Omega) (n : ℕ) → i ≢ j → (is_set i n && not (is_set j n)) ≡ false → IsExchangedUntil i j xs ys n → IsExchangedUntil i j xs ys (n + 1)
@@ -86,7 +92,6 @@ exchanged_skip i j xs ys n apart e h = record {
       (λ (p : n ≤ with_bit j false r). here r (omega arith) (is_set i n) (is_set j n) refl refl e)
       (cases_lt (with_bit j false r) n);
   rest = λ r l. h.rest r (omega arith);
-  weight = h.weight;
 }
   where
     here : (r : ℕ) → with_bit j false r ≡ n → (b c : Bool) → is_set i n ≡ b → is_set j n ≡ c → (b && not c) ≡ false → value_at ys r ≡ value_at xs (source_row i j r)
@@ -106,7 +111,6 @@ exchanged_pair i j xs ys n h p q place l apart e is f g old = record {
       (λ (k : n ≤ with_bit j false r). here r (omega arith) (is_set j r) refl)
       (cases_lt (with_bit j false r) n);
   rest = λ r m. other r (λ t. absurd (omega (arith, m, ap (with_bit j false) t ∙ low_of j n clear))) (λ t. absurd (omega (arith, m, ap (with_bit j false) t ∙ from_high))) ∙ old.rest r (omega arith);
-  weight = ap total_weight swapped ∙ swapped_total (map omega_value ys) n h inside_low inside_high ∙ old.weight;
 }
   where
     set : is_set i n ≡ true
@@ -130,18 +134,6 @@ exchanged_pair i j xs ys n h p q place l apart e is f g old = record {
 
     top_set : h < length (slice_set ys n p)
     top_set = let s = length-set ys n p in omega (arith, s, top)
-
-    inside_low : n < length (map omega_value ys)
-    inside_low = let s = length-map ys omega_value in omega (arith, s)
-
-    inside_high : h < length (map omega_value ys)
-    inside_high = let s = length-map ys omega_value in omega (arith, s, top)
-
-    swapped : map omega_value (slice_set (slice_set ys n p) h q) ≡ swapped_rows (map omega_value ys) n h
-    swapped =
-        map-set omega_value (slice_set ys n p) h q
-        ∙ ap (λ (t : List Coefficient). slice_set t h (omega_value q)) (map-set omega_value ys n p ∙ ap (slice_set (map omega_value ys) n) (ap omega_value f ∙ sym (at_map ys h)))
-        ∙ ap (slice_set (slice_set (map omega_value ys) n (at (map omega_value ys) h)) h) (ap omega_value g ∙ sym (at_map ys n))
 
     other : (r : ℕ) → r ≢ n → r ≢ h → slice_index_or (slice_set (slice_set ys n p) h q) r zero_omega ≡ slice_index_or ys r zero_omega
     other r s t = get_or-set_other (slice_set ys n p) h r q zero_omega t ∙ get_or-set_other ys n r p zero_omega s
@@ -169,41 +161,17 @@ exchanged_pair i j xs ys n h p q place l apart e is f g old = record {
 pub exchanged_whole : (i j : ℕ) (xs ys : List Omega) (n : ℕ) → HasPlace j (length xs) → length xs ≤ n → IsExchangedUntil i j xs ys n → IsTwoGateList Cnot i j (map omega_value xs) (map omega_value ys)
 exchanged_whole i j xs ys n place l h r = ⊎_elim
     (λ (p : r < length xs). at_map ys r ∙ h.done r (let k = pair_inside j (length xs) r false place p in omega arith) ∙ sym (at_map xs (source_row i j r)))
-    (λ (p : length xs ≤ r). at_past ys r (let e = h.rows in omega (arith, e)) ∙ sym (at_past xs (source_row i j r) (outside (is_set i r) refl p)))
+    (λ (p : length xs ≤ r). at_past ys r (let e = h.rows in omega (arith, e)) ∙ exchanged_past i j xs place r p)
     (cases_lt r (length xs))
-  where
-    outside : (b : Bool) → is_set i r ≡ b → length xs ≤ r → length xs ≤ source_row i j r
-    outside false e p = let f = source_at i j r false e in omega (arith, f)
-    outside true e p = let f = source_at i j r true e ∙ turned_is j r in let k = pair_outside j (length xs) r (not (is_set j r)) place p in omega (arith, f, k)
 
 -- ---- the rows below n are negated where both bits are 1, and the others are the old ones
-abbrev pub phased : ℕ → ℕ → ℕ → Coefficient → Coefficient
-phased i j r z = cond (is_set i r) (cond (is_set j r) (negated z) z) z
-
 pub record IsNegatedUntil (i j : ℕ) (xs ys : List Omega) (n : ℕ) : Type 0 where
   pub rows : length ys ≡ length xs
   pub done : (r : ℕ) → r < n → value_at ys r ≡ phased i j r (value_at xs r)
   pub rest : (r : ℕ) → n ≤ r → slice_index_or ys r zero_omega ≡ slice_index_or xs r zero_omega
-  pub weight : total_weight (map omega_value ys) ≡ total_weight (map omega_value xs)
 
 pub negated_none : (i j : ℕ) (xs : List Omega) → IsNegatedUntil i j xs xs 0
-negated_none i j xs = record { rows = refl; done = λ r l. absurd (omega arith); rest = λ r l. refl; weight = refl }
-
-phased_off : (i j r : ℕ) (z : Coefficient) → (is_set i r && is_set j r) ≡ false → phased i j r z ≡ z
-phased_off i j r z e = by (is_set i r) (is_set j r) e
-  where
-    by : (b c : Bool) → (b && c) ≡ false → cond b (cond c (negated z) z) z ≡ z
-    by true true e = absurd (clash e)
-    by true false e = refl
-    by false c e = refl
-
-phased_on : (i j r : ℕ) (z : Coefficient) → (is_set i r && is_set j r) ≡ true → phased i j r z ≡ negated z
-phased_on i j r z e = by (is_set i r) (is_set j r) e
-  where
-    by : (b c : Bool) → (b && c) ≡ true → cond b (cond c (negated z) z) z ≡ negated z
-    by true true e = refl
-    by true false e = absurd (clash (sym e))
-    by false c e = absurd (clash (sym e))
+negated_none i j xs = record { rows = refl; done = λ r l. absurd (omega arith); rest = λ r l. refl }
 
 -- a row is passed over
 pub negated_skip : (i j : ℕ) (xs ys : List Omega) (n : ℕ) → (is_set i n && is_set j n) ≡ false → IsNegatedUntil i j xs ys n → IsNegatedUntil i j xs ys (n + 1)
@@ -214,7 +182,6 @@ negated_skip i j xs ys n e h = record {
       (λ (p : n ≤ r). let f : r ≡ n = omega arith in ap omega_value (h.rest r p) ∙ sym (phased_off i j r (value_at xs r) (ap (λ t. is_set i t && is_set j t) f ∙ e)))
       (cases_lt r n);
   rest = λ r l. h.rest r (omega arith);
-  weight = h.weight;
 }
 
 -- a row is negated
@@ -228,23 +195,14 @@ negated_more i j xs ys n z l e is h = record {
       ∙ sym (phased_on i j r (value_at xs r) (ap (λ t. is_set i t && is_set j t) f ∙ e)))
       (cases_lt r n);
   rest = λ r m. get_or-set_other ys n r z zero_omega (λ t. absurd (omega (arith, t))) ∙ h.rest r (omega arith);
-  weight = ap total_weight changed ∙ negated_total (map omega_value ys) n (let s = length-map ys omega_value in omega (arith, s)) ∙ h.weight;
 }
-  where
-    changed : map omega_value (slice_set ys n z) ≡ negated_row (map omega_value ys) n
-    changed = map-set omega_value ys n z ∙ ap (slice_set (map omega_value ys) n) (is ∙ ap negated (sym (at_map ys n)))
 
 -- the whole list
 pub negated_whole : (i j : ℕ) (xs ys : List Omega) (n : ℕ) → length xs ≤ n → IsNegatedUntil i j xs ys n → IsTwoGateList Cphase i j (map omega_value xs) (map omega_value ys)
 negated_whole i j xs ys n l h r = ⊎_elim
     (λ (p : r < length xs). at_map ys r ∙ h.done r (omega arith) ∙ ap (phased i j r) (sym (at_map xs r)))
-    (λ (p : length xs ≤ r). at_past ys r (let e = h.rows in omega (arith, e)) ∙ absent (is_set i r) (is_set j r) ∙ ap (phased i j r) (sym (at_past xs r p)))
+    (λ (p : length xs ≤ r). at_past ys r (let e = h.rows in omega (arith, e)) ∙ phased_past i j xs r p)
     (cases_lt r (length xs))
-  where
-    absent : (b c : Bool) → zero_coefficient ≡ cond b (cond c (negated zero_coefficient) zero_coefficient) zero_coefficient
-    absent true true = refl
-    absent true false = refl
-    absent false c = refl
 
 -- the coordinates of a row that is still the old one
 pub row_range : (i j k : ℕ) (xs ys : List Omega) (n : ℕ) → ((r : ℕ) → CoordinatesBelow k (at (map omega_value xs) r)) → IsNegatedUntil i j xs ys n → CoordinatesBelow k (value_at ys n)

@@ -1,9 +1,7 @@
 -- Lists of coefficients: sizes of their coordinates, multiples entry by entry, and places of a row.
-use Rattle.std.specs.Prelude.{◌≡◌, ℕ, pos, neg_ℤ, ◌<◌, ◌^◌, true, false, List, length}
+use Rattle.std.specs.Prelude.{◌≡◌, ℕ, pos, neg_ℤ, ◌<◌, ◌^◌, List, length}
 use Rattle.state_model.specs.Coefficient.{Coefficient, coefficient, ◌⊗◌}
 use Rattle.state_model.specs.CoefficientList.{at, IsReduced, IsScaled}
-use Rattle.state_model.specs.Row.{is_set, with_bit}
-use Rattle.state_model.specs.Gate.{Matrix, entry}
 use Rattle.omega_ring.specs.Range.{CoordinatesBelow}
 
 -- 1 + w, whose weight is that of 1 - w with the other sign before √2
@@ -33,7 +31,3 @@ pub record HasPlace (place rows : ℕ) : Type 0 where
   pub qubits : ℕ
   pub inside : place < qubits
   pub count : rows ≡ 2 ^ qubits
-
--- what a gate's matrix gives a row
-abbrev pub IsGateRow : Matrix → ℕ → List Coefficient → ℕ → Coefficient → Type 0
-IsGateRow m place old row z = z ≡ entry m (is_set place row) (at old (with_bit place false row)) (at old (with_bit place true row))

@@ -1,6 +1,5 @@
 //! Gates of two qubits on the rows of a list.
 ghost use Rattle.std.specs.Prelude.{◌≡◌, ◌≢◌, ◌<◌, ◌≤◌, ◌^◌, ◌&&◌, not, length, take};
-ghost use Rattle.state_model.specs.CoefficientList.{total_weight};
 ghost use Rattle.state_model.specs.Row.{is_set};
 ghost use Rattle.state_model.specs.declared.Two.TheVariants.{Cnot, Cphase};
 ghost use Rattle.state_model.specs.Amplitudes.{IsTwoGateList};
@@ -21,7 +20,7 @@ fn is_controlled(row: usize, control: u8, target: u8) -> bool
 }
 
 /// Whether the row's bits at both places are 1.
-fn has_both(row: usize, one: u8, two: u8) -> bool
+pub(crate) fn has_both(row: usize, one: u8, two: u8) -> bool
     requires one { one < 12 }
     requires two { two < 12 }
     ensures { result ≡ (is_set one row && is_set two row) }
@@ -35,8 +34,7 @@ fn exchange_where(list: &mut [Omega], control: u8, target: u8)
     requires low { control < 12 }
     requires high { target < 12 }
     requires place { HasPlace target (length list.old) }
-    ensures list { IsTwoGateList Cnot control target (omega_values list.old) (omega_values list.new) }
-    ensures weight { total_weight (omega_values list.new) ≡ total_weight (omega_values list.old) }
+    ensures { IsTwoGateList Cnot control target (omega_values list.old) (omega_values list.new) }
 {
     for row in 0..list.len() {
         if is_controlled(row, control, target) {
@@ -53,8 +51,7 @@ fn negate_where(list: &mut [Omega], one: u8, two: u8)
     requires one { one < 12 }
     requires two { two < 12 }
     requires range { AllWithin (2 ^ 61) (omega_values list.old) }
-    ensures list { IsTwoGateList Cphase one two (omega_values list.old) (omega_values list.new) }
-    ensures weight { total_weight (omega_values list.new) ≡ total_weight (omega_values list.old) }
+    ensures { IsTwoGateList Cphase one two (omega_values list.old) (omega_values list.new) }
 {
     for row in 0..list.len() {
         if has_both(row, one, two) {
@@ -70,8 +67,7 @@ fn exchange_where_part(list: &mut [Omega], rows: usize, control: u8, target: u8)
     requires low { control < 12 }
     requires high { target < 12 }
     requires place { HasPlace target rows }
-    ensures list { IsTwoGateList Cnot control target (omega_values (take rows list.old)) (omega_values (take rows list.new)) }
-    ensures weight { total_weight (omega_values (take rows list.new)) ≡ total_weight (omega_values (take rows list.old)) }
+    ensures { IsTwoGateList Cnot control target (omega_values (take rows list.old)) (omega_values (take rows list.new)) }
 {
     exchange_where(&mut list[..rows], control, target);
 }
@@ -82,8 +78,7 @@ fn negate_where_part(list: &mut [Omega], rows: usize, one: u8, two: u8)
     requires one { one < 12 }
     requires two { two < 12 }
     requires range { AllWithin (2 ^ 61) (omega_values (take rows list.old)) }
-    ensures list { IsTwoGateList Cphase one two (omega_values (take rows list.old)) (omega_values (take rows list.new)) }
-    ensures weight { total_weight (omega_values (take rows list.new)) ≡ total_weight (omega_values (take rows list.old)) }
+    ensures { IsTwoGateList Cphase one two (omega_values (take rows list.old)) (omega_values (take rows list.new)) }
 {
     negate_where(&mut list[..rows], one, two);
 }
@@ -97,7 +92,6 @@ pub(crate) fn exchange_where_front(entries: &mut Vec<Omega>, rows: usize, contro
     requires place { HasPlace target rows }
     ensures room { length entries.new.items ≡ length entries.old.items }
     ensures list { IsTwoGateList Cnot control target (omega_values (take rows entries.old.items)) (omega_values (take rows entries.new.items)) }
-    ensures weight { total_weight (omega_values (take rows entries.new.items)) ≡ total_weight (omega_values (take rows entries.old.items)) }
 {
     exchange_where_part(entries, rows, control, target);
 }
@@ -110,7 +104,6 @@ pub(crate) fn negate_where_front(entries: &mut Vec<Omega>, rows: usize, one: u8,
     requires range { AllWithin (2 ^ 61) (omega_values (take rows entries.old.items)) }
     ensures room { length entries.new.items ≡ length entries.old.items }
     ensures list { IsTwoGateList Cphase one two (omega_values (take rows entries.old.items)) (omega_values (take rows entries.new.items)) }
-    ensures weight { total_weight (omega_values (take rows entries.new.items)) ≡ total_weight (omega_values (take rows entries.old.items)) }
 {
     negate_where_part(entries, rows, one, two);
 }

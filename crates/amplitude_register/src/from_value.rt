@@ -1,12 +1,14 @@
 //! Next values that a gate makes of a register's value in one pass.
-ghost use Rattle.std.specs.Prelude.{◌≡◌, ◌<◌, length};
+ghost use Rattle.std.specs.Prelude.{◌≡◌, ◌≢◌, ◌<◌, length};
 ghost use Rattle.state_model.specs.Gate.{matrix};
 ghost use Rattle.state_model.specs.declared.Gate.TheVariants.{H, RotZ};
-ghost use Rattle.amplitude_register.specs.States.{draft, prepared, IsGateStep};
+ghost use Rattle.state_model.specs.declared.Two.TheVariants.{Cnot, Cphase};
+ghost use Rattle.amplitude_register.specs.States.{draft, prepared, IsGateStep, IsTwoGateStep};
 
 use crate::block::{Stage, double};
 use crate::passes;
 use crate::register::Register;
+use crate::two_passes;
 
 impl Register {
     /// Opens a draft of the sums and differences of the value's rows, as `begin_same` and `mix_rows` do.
@@ -45,6 +47,50 @@ impl Register {
             self.value.rows,
             place,
             eighths,
+        );
+        self.stage = Stage::Prepared;
+    }
+
+    /// Prepares the value with its rows exchanged as CNOT does, as `prepare_same` and `exchange_rows_where` do.
+    pub fn prepare_exchanged_where(&mut self, control: u8, target: u8)
+        requires apart { control ≢ target }
+        requires control { control < length self.old.value.qubits }
+        requires target { target < length self.old.value.qubits }
+        ensures { IsTwoGateStep Cnot control target (record self.old { next = prepared self.old.value }) self.new }
+    {
+        let _limit = self.limit;
+        self.next.qubits = self.value.qubits;
+        self.next.count = self.value.count;
+        self.next.rows = self.value.rows;
+        self.next.weight = self.value.weight;
+        two_passes::exchange_where_front_into(
+            &mut self.next.entries,
+            &self.value.entries,
+            self.value.rows,
+            control,
+            target,
+        );
+        self.stage = Stage::Prepared;
+    }
+
+    /// Prepares the value with its rows negated as CPHASE does, as `prepare_same` and `negate_rows_where` do.
+    pub fn prepare_negated_where(&mut self, one: u8, two: u8)
+        requires apart { one ≢ two }
+        requires one { one < length self.old.value.qubits }
+        requires two { two < length self.old.value.qubits }
+        ensures { IsTwoGateStep Cphase one two (record self.old { next = prepared self.old.value }) self.new }
+    {
+        let _limit = self.limit;
+        self.next.qubits = self.value.qubits;
+        self.next.count = self.value.count;
+        self.next.rows = self.value.rows;
+        self.next.weight = self.value.weight;
+        two_passes::negate_where_front_into(
+            &mut self.next.entries,
+            &self.value.entries,
+            self.value.rows,
+            one,
+            two,
         );
         self.stage = Stage::Prepared;
     }

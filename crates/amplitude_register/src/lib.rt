@@ -16,5 +16,6 @@ mod rows;
 mod scalars;
 #[cfg(test)]
 mod tests;
+mod two_passes;
 
 pub use register::{Reduce, Register, TooLarge};

@@ -3,9 +3,9 @@ ghost use Rattle.std.specs.Prelude.{◌≡◌, ◌<◌, ◌≤◌, ◌^◌, fals
 ghost use Rattle.state_model.specs.Row.{with_bit};
 ghost use Rattle.state_model.specs.Gate.{matrix};
 ghost use Rattle.state_model.specs.declared.Gate.TheVariants.{H, RotZ};
-ghost use Rattle.state_model.specs.Amplitudes.{IsGateList};
+ghost use Rattle.state_model.specs.Amplitudes.{IsGateList, IsGateRow};
 ghost use Rattle.omega_ring.specs.Views.{omega_value, omega_values};
-ghost use Rattle.amplitude_register.specs.Multiples.{AllWithin, HasPlace, IsGateRow};
+ghost use Rattle.amplitude_register.specs.Multiples.{AllWithin, HasPlace};
 
 use crate::rows::{has_bit, less, plus, with_high_bit};
 use omega_ring::Omega;
@@ -60,7 +60,7 @@ fn mix_into(list: &mut [Omega], from: &[Omega], place: u8)
     requires range { AllWithin (2 ^ 61) (omega_values from.now) }
     ensures { IsGateList (matrix H) place (omega_values from.now) (omega_values list.new) }
 {
-    for row in 0..from.len() {
+    for row in (0..from.len()).rev() {
         list[row] = mixed(from, row, place);
     }
 }
@@ -74,7 +74,7 @@ fn turn_into(list: &mut [Omega], from: &[Omega], place: u8, eighths: u8)
     requires range { AllWithin (2 ^ 61) (omega_values from.now) }
     ensures { IsGateList (matrix (RotZ eighths)) place (omega_values from.now) (omega_values list.new) }
 {
-    for row in 0..from.len() {
+    for row in (0..from.len()).rev() {
         list[row] = turned(from, row, place, eighths);
     }
 }

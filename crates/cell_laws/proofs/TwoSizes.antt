@@ -24,23 +24,10 @@ use Rattle.state_model.proofs.RowLaws.{same_row, is_set-with_bit_same, is_set-wi
 use Rattle.state_model.proofs.Linear.{two_gate-IsHomogeneous}
 use Rattle.state_model.proofs.SameStates.{same_after}
 use Rattle.state_model.proofs.Sizes.{not_in}
+use Rattle.state_model.proofs.TwoGateLists.{turned_twice, turned-with_bit, weight-phased, negated_twice}
 use Rattle.cell_laws.proofs.Lengths.{middle, weight_on-member, squares_over-same}
 
 -- ---- twice is nothing
-negated_twice : (z : Coefficient) → negated (negated z) ≡ z
-negated_twice z = same_coordinates _ _ (omega (arith, ints)) (omega (arith, ints)) (omega (arith, ints)) (omega (arith, ints))
-
-not_not : (b : Bool) → not (not b) ≡ b
-not_not true = refl
-not_not false = refl
-
-turned_twice : (q x : ℕ) → turned q (turned q x) ≡ x
-turned_twice q x = same_row _ _ (λ p. at p (p == q) refl)
-  where
-    at : (p : ℕ) (t : Bool) → (p == q) ≡ t → is_set p (turned q (turned q x)) ≡ is_set p x
-    at p true e = ap (λ n. is_set n (turned q (turned q x))) (eq_of p q e) ∙ is_set-turned_same q (turned q x) ∙ ap not (is_set-turned_same q x) ∙ not_not (is_set q x) ∙ sym (ap (λ n. is_set n x) (eq_of p q e))
-    at p false e = is_set-turned_other p q (turned q x) (ne_of p q e) ∙ is_set-turned_other p q x (ne_of p q e)
-
 pub two_gate_twice : (k : Two) (p q : ℕ) → p ≢ q → (v : Vector) → two_gate k p q (two_gate k p q v) ≡ v
 unfolding two_gate controlled_not controlled_phase
 two_gate_twice twos.Cnot p q apart v = fun_ext (λ x. by x (is_set p x) refl)
@@ -88,18 +75,6 @@ same_pairs g q apart inside f h each =
     ∙ sym (by_pairs g q apart inside h)
 
 -- ---- the gates
-turned-with_bit : (q : ℕ) (b : Bool) (x : ℕ) → turned q (with_bit q b x) ≡ with_bit q (not b) x
-turned-with_bit q b x = same_row _ _ (λ p. at p (p == q) refl)
-  where
-    at : (p : ℕ) (t : Bool) → (p == q) ≡ t → is_set p (turned q (with_bit q b x)) ≡ is_set p (with_bit q (not b) x)
-    at p true e =
-        ap (λ n. is_set n (turned q (with_bit q b x))) (eq_of p q e) ∙ is_set-turned_same q (with_bit q b x) ∙ ap not (is_set-with_bit_same q b x)
-        ∙ sym (ap (λ n. is_set n (with_bit q (not b) x)) (eq_of p q e) ∙ is_set-with_bit_same q (not b) x)
-    at p false e = is_set-turned_other p q (with_bit q b x) (ne_of p q e) ∙ is_set-with_bit_other p q b x (ne_of p q e) ∙ sym (is_set-with_bit_other p q (not b) x (ne_of p q e))
-
-weight-negated : (z : Coefficient) → weight (negated z) ≡ weight z
-weight-negated z = same_weight _ _ (simp expand (omega (arith, same_in, sum_is_lem, neg_is))) (simp expand (omega (arith, same_in, sum_is_lem, neg_is)))
-
 two_gate_weights : (k : Two) (g : List ℕ) (p q : ℕ) → p ≢ q → AreDistinct g → is_listed g q ≡ true → (u : Vector) → weight_on g (λ x. weight (two_gate k p q u x)) ≡ weight_on g (λ x. weight (u x))
 unfolding two_gate controlled_not controlled_phase
 two_gate_weights twos.Cnot g p q other apart inside u =
@@ -113,12 +88,7 @@ two_gate_weights twos.Cnot g p q other apart inside u =
     by : (x : ℕ) (t : Bool) → weight_sum (weight (u (cond t (with_bit q true x) (with_bit q false x)))) (weight (u (cond t (with_bit q false x) (with_bit q true x)))) ≡ weight_sum (weight (u (with_bit q false x))) (weight (u (with_bit q true x)))
     by x true = weight_sum_comm (weight (u (with_bit q true x))) (weight (u (with_bit q false x)))
     by x false = refl
-two_gate_weights twos.Cphase g p q other apart inside u = weight_on-same g _ (λ x. weight (u x)) (λ x is. by (u x) (is_set p x) (is_set q x))
-  where
-    by : (z : Coefficient) (s t : Bool) → weight (cond s (cond t (negated z) z) z) ≡ weight z
-    by z true true = weight-negated z
-    by z true false = refl
-    by z false t = refl
+two_gate_weights twos.Cphase g p q other apart inside u = weight_on-same g _ (λ x. weight (u x)) (λ x is. weight-phased (is_set p x) (is_set q x) (u x))
 
 pub two_gate_squares : (k : Two) (g : List ℕ) (p q : ℕ) → p ≢ q → AreDistinct g → is_listed g q ≡ true → (u : Vector) → squares_over g (two_gate k p q u) ≡ squares_over g u
 two_gate_squares k g p q other apart inside u = squares_over-same g g (two_gate k p q u) u (two_gate_weights k g p q other apart inside u)

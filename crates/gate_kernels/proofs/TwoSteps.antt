@@ -1,30 +1,22 @@
--- A step of two qubits on the prepared value, and what it stands for.
-use Rattle.std.proofs.Common.{◌≡◌, ℕ, ◌<◌, length, sym, subst, refl}
+-- A step of two qubits, and what it stands for.
+use Rattle.std.proofs.Common.{ℕ, ◌<◌, length, sym, subst, refl}
+use Rattle.state_model.specs.Amplitudes.{Amplitudes, HasRows}
 use Rattle.state_model.specs.declared.Two.{Two}
 use Rattle.state_model.proofs.RegisterGates.{two_gate_list}
-use Rattle.amplitude_register.specs.States.{RegisterState, Next, prepared, next_value, IsPrepared, IsNextKept, IsTwoGateStep}
-use Rattle.gate_kernels.specs.Twos.{source, IsTwoApplied}
+use Rattle.amplitude_register.specs.States.{RegisterState, Next, empty, draft, prepared, next_value, IsNextKept, IsTwoGateStep}
+use Rattle.gate_kernels.specs.Twos.{prepared_or, source, IsTwoApplied}
 
-abbrev with_next : RegisterState → Next → RegisterState
-with_next o x = record { limit = o.limit; value = o.value; next = x }
+-- what the gate begins with has its rows
+source_rows : (value : Amplitudes) (x : Next) → HasRows value → IsNextKept x → HasRows (prepared_or value x)
+source_rows value empty rows kept = rows
+source_rows value (draft a) rows kept = rows
+source_rows value (prepared a) rows kept = kept.0
 
--- what the step needs
-pub source_prepared : (old mid : RegisterState) → mid ≡ with_next old (prepared (source old)) → IsPrepared mid.next
-source_prepared old mid e = subst (λ (t : RegisterState). IsPrepared t.next) (sym e) tt
-
-pub source_place : (old mid : RegisterState) (place : ℕ) → mid ≡ with_next old (prepared (source old)) → place < length (source old).qubits → place < length (next_value mid.next).qubits
-source_place old mid place e l = subst (λ (t : RegisterState). place < length (next_value t.next).qubits) (sym e) l
-
--- what it makes
-pub two_applied : (k : Two) (p q : ℕ) (old mid new : RegisterState) → mid ≡ with_next old (prepared (source old)) → IsNextKept mid.next → p < length (source old).qubits → q < length (source old).qubits
-    → IsTwoGateStep k p q mid new → IsNextKept new.next → IsTwoApplied k p q old new
-two_applied k p q old mid new e before l m step after =
-    by (subst (λ (t : RegisterState). IsNextKept t.next) e before) (subst (λ (t : RegisterState). IsTwoGateStep k p q t new) e step)
-  where
-    by : IsNextKept (prepared (source old)) → IsTwoGateStep k p q (with_next old (prepared (source old))) new → IsTwoApplied k p q old new
-    by rows step = subst (IsTwoApplied k p q old) (sym step.after) record {
-      after = refl;
-      vector = two_gate_list (source old) k p q (next_value new.next).list (rows.0) l m step.list;
-      weight = step.weight;
-      kept = (subst (λ (t : RegisterState). IsNextKept t.next) step.after after).1;
-    }
+pub two_applied : (k : Two) (p q : ℕ) (old new : RegisterState) → HasRows old.value → IsNextKept old.next → p < length (source old).qubits → q < length (source old).qubits
+    → IsTwoGateStep k p q record old { next = prepared (source old) } new → IsNextKept new.next → IsTwoApplied k p q old new
+two_applied k p q old new rows before l m step after = subst (IsTwoApplied k p q old) (sym step.after) record {
+  after = refl;
+  vector = two_gate_list (source old) k p q (next_value new.next).list (source_rows old.value old.next rows before) l m step.list;
+  weight = step.weight;
+  kept = (subst (λ (t : RegisterState). IsNextKept t.next) step.after after).1;
+}

@@ -1,4 +1,5 @@
-//! Gates of two qubits on a register: rows are exchanged or negated in place.
+//! Gates of two qubits on a register: rows are exchanged or negated, in place in a prepared value, else from the
+//! register's value to the next one in one pass.
 ghost use Rattle.std.specs.Prelude.{◌≡◌, ◌≢◌, ◌<◌, length};
 ghost use Rattle.amplitude_register.specs.States.{prepared, next_value, IsPrepared, IsTwoGateStep};
 ghost use Rattle.gate_kernels.specs.Twos.{source, IsTwoApplied};
@@ -14,18 +15,22 @@ pub fn prepare_two(reg: &mut Register, p: u8, q: u8, gate: Two)
     requires two { q < length (source reg.old).qubits }
     ensures { IsTwoApplied gate p q reg.old reg.new }
 {
-    prepare_source(reg);
     reg.facts();
-    change_rows(reg, p, q, gate);
+    apply(reg, p, q, gate);
     reg.facts();
 }
 
-/// Prepares a copy of the value where none is prepared.
-fn prepare_source(reg: &mut Register)
-    ensures { reg.new ≡ record reg.old { next = prepared (source reg.old) } }
+/// Applies the gate to the prepared value, or to the register's where none is prepared.
+fn apply(reg: &mut Register, p: u8, q: u8, gate: Two)
+    requires apart { p ≢ q }
+    requires one { p < length (source reg.old).qubits }
+    requires two { q < length (source reg.old).qubits }
+    ensures { IsTwoGateStep gate p q (record reg.old { next = prepared (source reg.old) }) reg.new }
 {
-    if reg.prepared().is_none() {
-        reg.prepare_same();
+    if reg.prepared().is_some() {
+        change_rows(reg, p, q, gate);
+    } else {
+        write_rows(reg, p, q, gate);
     }
 }
 
@@ -40,5 +45,18 @@ fn change_rows(reg: &mut Register, p: u8, q: u8, gate: Two)
     match gate {
         Two::Cnot => reg.exchange_rows_where(p, q),
         Two::Cphase => reg.negate_rows_where(p, q),
+    }
+}
+
+/// Prepares the register's value with rows exchanged or negated.
+fn write_rows(reg: &mut Register, p: u8, q: u8, gate: Two)
+    requires apart { p ≢ q }
+    requires one { p < length reg.old.value.qubits }
+    requires two { q < length reg.old.value.qubits }
+    ensures { IsTwoGateStep gate p q (record reg.old { next = prepared reg.old.value }) reg.new }
+{
+    match gate {
+        Two::Cnot => reg.prepare_exchanged_where(p, q),
+        Two::Cphase => reg.prepare_negated_where(p, q),
     }
 }

@@ -118,7 +118,7 @@ mixed_weight y z =
     ∙ equal_pairs (coordinates y (coordinates z [])) (sum_pair (weight_quad (add_quad (quad 0) (quad 4))) (weight_quad (sub_quad (quad 0) (quad 4))))
     record { x = times (number (pos 2)) (plus (weight_quad (quad 0)).x (weight_quad (quad 4)).x); y = times (number (pos 2)) (plus (weight_quad (quad 0)).y (weight_quad (quad 4)).y) } refl refl
 
-once : (w : Weight) → w ≡ scaled 1 w
+pub once : (w : Weight) → w ≡ scaled 1 w
 once w = equal_pairs (w.x ∷ w.y ∷ []) (pair 0) record { x = times (number (pos 1)) (var 0); y = times (number (pos 1)) (var 1) } refl refl
 
 pub exchanged_weight : (y z : Coefficient) → weight_sum (weight (entry (matrix X) false y z)) (weight (entry (matrix X) true y z)) ≡ scaled 1 (weight_sum (weight y) (weight z))

@@ -1,17 +1,17 @@
 -- The rows of a register whose bit at a place has a value: the list of what a measurement keeps, and the weight of the rows with a 1.
 use Prim.Native.Nat.{zero, suc}
-use Rattle.std.proofs.Common.{◌≡◌, ◌≢◌, ℕ, ◌+◌, ◌*◌, ◌/◌, ◌%◌, ◌<◌, ◌≤◌, ◌^◌, ◌==◌, Bool, true, false, not, cond, ◌&&◌, ◌||◌, ℤ, pos, ◌≤ℤ◌, List, [], ◌∷◌, length, filter, refl, sym, ap, subst, ◌∙◌, arith}
+use Rattle.std.proofs.Common.{◌≡◌, ◌≢◌, ℕ, ◌+◌, ◌*◌, ◌/◌, ◌%◌, ◌<◌, ◌≤◌, ◌^◌, ◌==◌, Bool, true, false, not, cond, ◌&&◌, ℤ, pos, ◌≤ℤ◌, List, [], ◌∷◌, length, filter, refl, sym, ap, subst, ◌∙◌, arith}
 use mathlib.Core.Path.{fun_ext}
 use Rattle.std.proofs.lemmas.Int.{ints}
 use Rattle.std.proofs.Math.Nat.{pow-succ'}
-use Rattle.state_model.specs.Coefficient.{Coefficient, zero_coefficient, Weight, weight, no_weight, weight_sum}
+use Rattle.state_model.specs.Coefficient.{Coefficient, zero_coefficient, Weight, weight, weight_sum}
 use Rattle.state_model.specs.CoefficientList.{at, total_weight}
 use Rattle.state_model.specs.Row.{is_set, with_bit, inserted, is_listed, within, rows_of, without}
 use Rattle.state_model.specs.StateVector.{Vector, squares_over}
 use Rattle.state_model.specs.Measurement.{weight_of, whole_weight, one_weight, keep}
 use Rattle.state_model.specs.Registers.{register_row, register_vector}
 use Rattle.state_model.specs.Amplitudes.{Amplitudes, vector_of, qubit_at, AreDistinct, HasRows, IsKeptList}
-use Rattle.state_model.proofs.Booleans.{eq_true, eq_false, eq_of, ne_of, clash, and_true, and_false, or_false_left, or_false_right}
+use Rattle.state_model.proofs.Booleans.{eq_true, eq_false, eq_of, ne_of, clash, and_true}
 use Rattle.state_model.proofs.Numbers.{is_listed-without}
 use Rattle.state_model.proofs.Parts.{within_all, no_bit_outside}
 use Rattle.state_model.proofs.RowLaws.{is_set-with_bit_same, is_set-with_bit_other}

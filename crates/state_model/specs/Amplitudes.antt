@@ -32,14 +32,22 @@ pub record HasRows (a : Amplitudes) : Type 0 where
   pub rows : length a.list ≡ 2 ^ length a.qubits
   pub distinct : AreDistinct a.qubits
 
+-- what a gate on the qubit at a place gives a row
+abbrev pub IsGateRow : Matrix → ℕ → List Coefficient → ℕ → Coefficient → Type 0
+IsGateRow m place old row z = z ≡ entry m (is_set place row) (at old (with_bit place false row)) (at old (with_bit place true row))
+
 -- the second list is what a gate on the qubit at a place makes of the first, row by row
 abbrev pub IsGateList : Matrix → ℕ → List Coefficient → List Coefficient → Type 0
-IsGateList m place old new = (row : ℕ) → at new row ≡ entry m (is_set place row) (at old (with_bit place false row)) (at old (with_bit place true row))
+IsGateList m place old new = (row : ℕ) → IsGateRow m place old row (at new row)
+
+-- what a gate on the qubits at two places gives a row
+abbrev pub IsTwoGateRow : Two → ℕ → ℕ → List Coefficient → ℕ → Coefficient → Type 0
+IsTwoGateRow Cnot one two old row z = z ≡ at old (cond (is_set one row) (turned two row) row)
+IsTwoGateRow Cphase one two old row z = z ≡ cond (is_set one row) (cond (is_set two row) (negated (at old row)) (at old row)) (at old row)
 
 -- the second list is what a gate on the qubits at two places makes of the first, row by row
 abbrev pub IsTwoGateList : Two → ℕ → ℕ → List Coefficient → List Coefficient → Type 0
-IsTwoGateList Cnot one two old new = (row : ℕ) → at new row ≡ at old (cond (is_set one row) (turned two row) row)
-IsTwoGateList Cphase one two old new = (row : ℕ) → at new row ≡ cond (is_set one row) (cond (is_set two row) (negated (at old row)) (at old row)) (at old row)
+IsTwoGateList k one two old new = (row : ℕ) → IsTwoGateRow k one two old row (at new row)
 
 -- the second list has the rows of the first whose bit at a place has the value, without that bit and in their order
 pub record IsKeptList (place : ℕ) (bit : Bool) (old new : List Coefficient) : Type 0 where

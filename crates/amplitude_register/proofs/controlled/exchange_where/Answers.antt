@@ -7,11 +7,8 @@ use Rattle.omega_ring.specs.declared.coefficients.Omega.{Omega}
 pub loop-row-init : goal.loop-row-init
 loop-row-init c = exchanged_none c.args.control c.args.target c.args.list.now
 
-pub returns-clause-list : goal.returns-clause-list
-returns-clause-list c = exchanged_whole c.args.control c.args.target c.args.list.now c.loop-row.list c.loop-row.row c.requires.place (omega arith) c.loop-row.invariant
-
-pub returns-clause-weight : goal.returns-clause-weight
-returns-clause-weight c = let h = c.loop-row.invariant in h.weight
+pub returns : goal.returns
+returns c = exchanged_whole c.args.control c.args.target c.args.list.now c.loop-row.list c.loop-row.row c.requires.place (omega arith) c.loop-row.invariant
 
 pub loop-row-preserved : goal.loop-row-preserved
 loop-row-preserved c = elim c.if-is_controlled.branch [

@@ -10,11 +10,8 @@ loop-row-init c = negated_none c.args.one c.args.two c.args.list.now
 pub opposite-requires : goal.opposite-requires
 opposite-requires c = row_range c.args.one c.args.two (2 ^ 61) c.args.list.now c.loop-row.list c.loop-row.row c.requires.range c.loop-row.invariant
 
-pub returns-clause-list : goal.returns-clause-list
-returns-clause-list c = negated_whole c.args.one c.args.two c.args.list.now c.loop-row.list c.loop-row.row (omega arith) c.loop-row.invariant
-
-pub returns-clause-weight : goal.returns-clause-weight
-returns-clause-weight c = let h = c.loop-row.invariant in h.weight
+pub returns : goal.returns
+returns c = negated_whole c.args.one c.args.two c.args.list.now c.loop-row.list c.loop-row.row (omega arith) c.loop-row.invariant
 
 pub loop-row-preserved : goal.loop-row-preserved
 loop-row-preserved c = elim c.if-has_both.branch [

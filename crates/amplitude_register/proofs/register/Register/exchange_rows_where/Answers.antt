@@ -1,6 +1,6 @@
 use Rattle.std.proofs.Common.{map, take, refl, ◌∙◌}
 use Rattle.amplitude_register.proofs.Fields.{block_room, has_place, list_of}
-use Rattle.amplitude_register.proofs.PreparedRows.{prepared_stage, ready_place, ready_low, two_step, two_stage}
+use Rattle.amplitude_register.proofs.PreparedRows.{prepared_stage, ready_place, ready_low, two_step, two_stage, two_stepped}
 use Rattle.amplitude_register.specs.Held.{amplitudes_of}
 use Rattle.state_model.specs.declared.Two.TheVariants.{Cnot}
 use Rattle.omega_ring.specs.Views.{omega_value}
@@ -28,8 +28,10 @@ invariant_of-self c =
       next = record { rows = n.rows; count = n.count; room = c.exchange_where_front.ensures.room ∙ n.room; numbers = n.numbers; distinct = n.distinct };
       weighed = i.weighed;
       kept = i.kept;
-      stage = two_stage Cnot c.args.control c.args.target c.self.inside.stage c.self.inside.next record { qubits = c.self.inside.next.qubits; count = c.self.inside.next.count; rows = c.self.inside.next.rows; weight = c.self.inside.next.weight; entries = c.exchange_where_front.new.entries } c.requires.apart (prepared_stage c.args.self.now c.self.inside.limit (amplitudes_of c.self.inside.value) c.self.inside.stage (amplitudes_of c.self.inside.next) c.self.view_is c.requires.prepared) refl c.exchange_where_front.ensures.list c.exchange_where_front.ensures.weight i.stage;
+      stage = two_stage Cnot c.args.control c.args.target c.self.inside.stage c.self.inside.next record { qubits = c.self.inside.next.qubits; count = c.self.inside.next.count; rows = c.self.inside.next.rows; weight = c.self.inside.next.weight; entries = c.exchange_where_front.new.entries } c.requires.apart (prepared_stage c.args.self.now c.self.inside.limit (amplitudes_of c.self.inside.value) c.self.inside.stage (amplitudes_of c.self.inside.next) c.self.view_is c.requires.prepared) refl c.exchange_where_front.ensures.list (two_stepped Cnot c.args.control c.args.target c.self.inside.limit c.self.inside.next c.exchange_where_front.new.entries.items c.requires.apart i.next (ready_place c.args.self.now c.self.inside.limit (amplitudes_of c.self.inside.value) c.self.inside.stage c.self.inside.next c.args.target i.most i.next c.self.view_is c.requires.prepared c.requires.target) c.exchange_where_front.ensures.room c.exchange_where_front.ensures.list) i.stage;
     }
 
 pub returns : goal.returns
-returns c = two_step Cnot c.args.control c.args.target c.args.self.now c.self.inside.limit (amplitudes_of c.self.inside.value) c.self.inside.stage (take c.self.inside.next.count c.self.inside.next.qubits) (list_of c.self.inside.next) (map omega_value (take c.self.inside.next.rows c.exchange_where_front.new.entries.items)) c.self.view_is c.requires.prepared c.exchange_where_front.ensures.list c.exchange_where_front.ensures.weight
+returns c =
+    let i = c.self.invariant in
+    two_step Cnot c.args.control c.args.target c.args.self.now c.self.inside.limit (amplitudes_of c.self.inside.value) c.self.inside.stage (take c.self.inside.next.count c.self.inside.next.qubits) (list_of c.self.inside.next) (map omega_value (take c.self.inside.next.rows c.exchange_where_front.new.entries.items)) c.self.view_is c.requires.prepared c.exchange_where_front.ensures.list (two_stepped Cnot c.args.control c.args.target c.self.inside.limit c.self.inside.next c.exchange_where_front.new.entries.items c.requires.apart i.next (ready_place c.args.self.now c.self.inside.limit (amplitudes_of c.self.inside.value) c.self.inside.stage c.self.inside.next c.args.target i.most i.next c.self.view_is c.requires.prepared c.requires.target) c.exchange_where_front.ensures.room c.exchange_where_front.ensures.list)
