@@ -1,12 +1,12 @@
 -- Runs of 2^p rows: row k * 2^p + x is row x of run k, and a bit from place p on is one for the whole run.
 use Prim.Native.Nat.{zero, suc}
-use Rattle.std.proofs.Common.{◌≡◌, ◌≢◌, ℕ, ◌+◌, ◌-◌, ◌*◌, ◌/◌, ◌<◌, ◌≤◌, ◌^◌, Bool, true, false, not, cond, List, length, take, drop, ◌++◌, map, slice_index_or, refl, sym, ap, subst, ◌∙◌, arith, ◌⊎◌, inl, inr}
+use Rattle.std.proofs.Common.{◌≡◌, ℕ, ◌+◌, ◌-◌, ◌*◌, ◌/◌, ◌<◌, ◌≤◌, ◌^◌, Bool, true, false, not, cond, List, length, take, drop, ◌++◌, slice_index_or, refl, sym, ap, subst, ◌∙◌, arith, ◌⊎◌, inl, inr}
 use Rattle.std.proofs.Math.Nat.{pow-succ', mul_assoc, mul_comm, add-mul, one-mul, zero-mul, mul-div_cancel, mul-le-mul_right, div-mul-le_self}
 use Rattle.std.proofs.lemmas.Bool.{cases_lt}
 use Rattle.std.proofs.lemmas.List.{get_or-drop, get_or-take, get_or-append-add, get_or_append_left, length-take-le, length-drop}
 use Rattle.std.proofs.lemmas.Nat.{pow-add, pow_pos}
 use Rattle.state_model.specs.Coefficient.{Coefficient}
-use Rattle.state_model.specs.Row.{is_set, with_bit, turned}
+use Rattle.state_model.specs.Row.{is_set, with_bit}
 use Rattle.state_model.proofs.Registers.{higher, high_with_bit}
 use Rattle.state_model.proofs.RegisterLists.{row_split}
 use Rattle.state_model.proofs.TwoGateLists.{turned_is, source_row, source_at}

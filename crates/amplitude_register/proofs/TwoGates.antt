@@ -1,7 +1,7 @@
 -- Rows after a gate of two qubits, and lists of which it has changed the rows so far.
 use Rattle.std.proofs.Common.{◌≡◌, ◌≢◌, ℕ, ◌+◌, ◌<◌, ◌≤◌, ◌&&◌, Bool, true, false, not, cond, List, length, map, slice_index_or, slice_set, refl, sym, ap, subst, ◌∙◌, arith, ⊎_elim, get_or-set_same, get_or-set_other}
-use Rattle.std.proofs.lemmas.Bool.{cases_lt, cases_eq}
-use Rattle.std.proofs.lemmas.List.{length-set, length-map, map-set}
+use Rattle.std.proofs.lemmas.Bool.{cases_lt}
+use Rattle.std.proofs.lemmas.List.{length-set}
 use Rattle.state_model.specs.Coefficient.{Coefficient, zero_coefficient, negated}
 use Rattle.state_model.specs.CoefficientList.{at}
 use Rattle.state_model.specs.Row.{is_set, with_bit, turned}

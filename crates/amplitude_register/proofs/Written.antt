@@ -7,7 +7,7 @@ use Rattle.state_model.specs.CoefficientList.{at}
 use Rattle.state_model.specs.Row.{is_set, with_bit, turned}
 use Rattle.state_model.specs.Gate.{Matrix, matrix, entry}
 use Rattle.state_model.specs.declared.Gate.TheVariants.{H, RotZ}
-use Rattle.state_model.specs.Amplitudes.{IsGateRow, IsTwoGateRow}
+use Rattle.state_model.specs.Amplitudes.{IsGateRow}
 use Rattle.state_model.proofs.Gates.{entry_absent, with_own_bit}
 use Rattle.state_model.proofs.GateLists.{sum_entry, difference_entry, turned_low, turned_high}
 use Rattle.omega_ring.specs.Views.{omega_value}

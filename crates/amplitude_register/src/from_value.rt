@@ -6,9 +6,8 @@ ghost use Rattle.state_model.specs.declared.Two.TheVariants.{Cnot, Cphase};
 ghost use Rattle.amplitude_register.specs.States.{draft, prepared, IsGateStep, IsTwoGateStep};
 
 use crate::block::{Stage, double};
-use crate::passes;
 use crate::register::Register;
-use crate::two_passes;
+use crate::{passes, two_passes};
 
 impl Register {
     /// Opens a draft of the sums and differences of the value's rows, as `begin_same` and `mix_rows` do.

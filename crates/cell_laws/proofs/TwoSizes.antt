@@ -2,9 +2,8 @@
 --     two_gate_twice     twice is nothing
 --     two_gate_squares   the sum of squares stays
 --     two_size           the size stays
-use Rattle.std.proofs.Common.{◌≡◌, ◌≢◌, ℕ, ◌≤◌, ◌==◌, Bool, true, false, not, cond, List, [], ◌∷◌, refl, sym, ap, subst, ◌∙◌, arith}
+use Rattle.std.proofs.Common.{◌≡◌, ◌≢◌, ℕ, ◌≤◌, Bool, true, false, not, cond, List, [], ◌∷◌, refl, sym, ap, subst, ◌∙◌}
 use mathlib.Core.Path.{fun_ext}
-use borrow.Author.Differences.{ints, same_in, sum_is_lem, neg_is}
 use Rattle.state_model.specs.Coefficient.{Coefficient, zero_coefficient, Weight, weight, weight_sum, negated}
 use Rattle.state_model.specs.Row.{is_set, with_bit, turned, is_listed, within, without}
 use Rattle.state_model.specs.StateVector.{Vector, IsPart, IsSameState, IsSize, HasSizeAtLeast, squares_over}
@@ -12,15 +11,11 @@ use Rattle.state_model.specs.Amplitudes.{AreDistinct}
 use Rattle.state_model.specs.Gate.{two_gate, controlled_not, controlled_phase}
 use Rattle.state_model.specs.declared.Two.{Two}
 use Rattle.state_model.specs.declared.Two.TheVariants as twos
-use Rattle.state_model.proofs.Booleans.{eq_of, ne_of}
-use Rattle.state_model.proofs.Draws.{same_weight}
 use Rattle.state_model.proofs.Gates.{with_own_bit}
 use Rattle.state_model.proofs.Insides.{two_gates_inside_make_parts}
-use Rattle.state_model.proofs.Integers.{expand}
 use Rattle.state_model.proofs.Parts.{no_bit_outside}
 use Rattle.state_model.proofs.RegisterSums.{weight_on, weight_on-same, weight_sum_comm}
-use Rattle.state_model.proofs.Ring.{same_coordinates}
-use Rattle.state_model.proofs.RowLaws.{same_row, is_set-with_bit_same, is_set-with_bit_other, is_set-turned_same, is_set-turned_other}
+use Rattle.state_model.proofs.RowLaws.{is_set-with_bit_other, is_set-turned_other}
 use Rattle.state_model.proofs.Linear.{two_gate-IsHomogeneous}
 use Rattle.state_model.proofs.SameStates.{same_after}
 use Rattle.state_model.proofs.Sizes.{not_in}

@@ -1,4 +1,4 @@
--- The register that the timing begins with: twelve distinct qubits, and the one row 0.
+-- The registers that the timing begins with: distinct qubits, and the one row 0.
 use Rattle.std.proofs.Common.{◌≡◌, ℕ, zero, suc, ◌<◌, ◌^◌, ◌==◌, ◌||◌, Bool, false, take, [], ◌∷◌, List, length, replicate, slice_set, pos, ◌<ℤ◌, refl, sym, ap, subst, ◌∙◌, arith}
 use Rattle.std.proofs.lemmas.List.{get_or-set_same, length-replicate}
 use Rattle.std.proofs.lemmas.Nat.{pow_pos}
@@ -16,6 +16,10 @@ use Rattle.state_model.proofs.Inequalities.{order}
 pub twelve : AreDistinct (0 ∷ 1 ∷ 2 ∷ 3 ∷ 4 ∷ 5 ∷ 6 ∷ 7 ∷ 8 ∷ 9 ∷ 10 ∷ 11 ∷ [])
 unfolding is_listed
 twelve = (refl, (refl, (refl, (refl, (refl, (refl, (refl, (refl, (refl, (refl, (refl, (refl, tt))))))))))))
+
+pub six_more : AreDistinct (12 ∷ 13 ∷ 14 ∷ 15 ∷ 16 ∷ 17 ∷ [])
+unfolding is_listed
+six_more = (refl, (refl, (refl, (refl, (refl, (refl, tt))))))
 
 -- the first of distinct numbers are distinct
 unlisted_take : (n q : ℕ) (qs : List ℕ) → is_listed qs q ≡ false → is_listed (take n qs) q ≡ false

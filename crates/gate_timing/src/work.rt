@@ -1,12 +1,15 @@
 //! Dense registers, and what is timed on them.
-ghost use Rattle.std.specs.Prelude.{◌≡◌, ◌<◌, ◌≤◌, length};
+ghost use Rattle.std.specs.Prelude.{◌≡◌, ◌<◌, ◌≤◌, length, IsTrue};
+ghost use Rattle.state_model.specs.Amplitudes.{AreDistinct};
 ghost use Rattle.gate_kernels.specs.Gates.{HasEighths};
+ghost use Rattle.register_merge.specs.Merging.{AreApart};
 ghost use Rattle.register_split.specs.Removal.{HasRowWith};
 
 use amplitude_register::{Reduce, Register};
 use born_draw::outcome;
 use gate_kernels::{Gate, Two, prepare_one, prepare_two};
 use omega_ring::Omega;
+use register_merge::{Merge, prepare_merge, verdict};
 use register_split::{prepare_take_out, weights};
 use std::alloc::{AllocError, Global};
 
@@ -22,29 +25,45 @@ const ONE: Omega = Omega {
     d: 0,
 };
 
-/// A register of so many qubits, at most 12, each the sum of its basis states, one turned by an eighth.
+/// A register of so many qubits from number 0 on, if at most 12, each the sum of its basis states, one turned by an
+/// eighth.
 pub fn dense(alloc: Global, count: u8) -> Result<Register, AllocError> {
     let mut reg = Register::new(alloc, 12)?;
-    open(&mut reg, count);
-    for place in 0..12 {
-        apply(&mut reg, place, Gate::H);
-        apply(&mut reg, place, Gate::RotZ(EIGHTH));
+    let numbers = [0, 1, 2, 3, 4, 5, 6, 7, 8, 9, 10, 11];
+    if count <= 12 {
+        open(&mut reg, &numbers[..count as usize]);
     }
+    mix(&mut reg);
     Ok(reg)
 }
 
-/// Makes a register of so many qubits, if at most 12, all in basis state 0.
-fn open(reg: &mut Register, count: u8)
-    requires { 12 ≤ reg.old.limit }
+/// As `dense`, a register of the six qubits from number 12 on.
+pub fn dense_six(alloc: Global) -> Result<Register, AllocError> {
+    let mut reg = Register::new(alloc, 12)?;
+    let numbers = [12, 13, 14, 15, 16, 17];
+    open(&mut reg, &numbers);
+    mix(&mut reg);
+    Ok(reg)
+}
+
+/// Makes a register of qubits that are all in basis state 0.
+fn open(reg: &mut Register, numbers: &[u8])
+    requires limit { 12 ≤ reg.old.limit }
+    requires few { length numbers.now ≤ 12 }
+    requires distinct { AreDistinct numbers.now }
 {
-    if count > 12 {
-        return;
-    }
-    let numbers = [0, 1, 2, 3, 4, 5, 6, 7, 8, 9, 10, 11];
-    reg.begin(&numbers[..count as usize]);
+    reg.begin(numbers);
     reg.put(0, ONE);
     if reg.seal(Reduce::Delta).is_ok() {
         reg.flip();
+    }
+}
+
+/// Makes of each qubit the sum of its basis states, and turns one of them by an eighth.
+fn mix(reg: &mut Register) {
+    for place in 0..12 {
+        apply(reg, place, Gate::H);
+        apply(reg, place, Gate::RotZ(EIGHTH));
     }
 }
 
@@ -142,6 +161,41 @@ pub fn removals(reg: &mut Register, count: u32) -> u32 {
     let mut done: u32 = 0;
     for k in 0..count {
         done = done.wrapping_add(remove(reg, (k % 12) as u8, word_of(k)));
+    }
+    done
+}
+
+/// Whether no qubit of one register is one of the other's.
+fn are_apart(one: &Register, two: &Register) -> bool
+    ensures { IsTrue result → AreApart one.now.value two.now.value }
+{
+    let numbers = one.qubits();
+    for k in 0..numbers.len() {
+        if two.place_of(numbers[k]).is_some() {
+            return false;
+        }
+    }
+    true
+}
+
+/// Prepares the product of two registers, where there is room for it; the first keeps its value.
+fn merge(one: &mut Register, two: &Register) -> u32 {
+    if one.limit() != two.limit() || !are_apart(one, two) {
+        return 0;
+    }
+    let Merge::Fits = verdict(one, two) else {
+        return 0;
+    };
+    prepare_merge(one, two);
+    one.forget();
+    1
+}
+
+/// Merges of two registers.
+pub fn merges(one: &mut Register, two: &Register, count: u32) -> u32 {
+    let mut done: u32 = 0;
+    for _ in 0..count {
+        done = done.wrapping_add(merge(one, two));
     }
     done
 }

@@ -1,4 +1,4 @@
-use Rattle.std.proofs.Common.{◌≡◌, ◌+◌, ◌-◌, ◌*◌, ◌/◌, ◌≤◌, ℕ, length, map, slice_index_or, refl, sym, subst, ap, ◌∙◌, arith}
+use Rattle.std.proofs.Common.{◌≡◌, ◌+◌, ◌-◌, ◌*◌, ◌/◌, ◌≤◌, ℕ, length, map, slice_index_or, refl, sym, subst, arith}
 use Rattle.state_model.specs.declared.Two.TheVariants.{Cnot}
 use Rattle.state_model.specs.Amplitudes.{IsTwoGateRow}
 use Rattle.omega_ring.specs.Views.{omega_value}

@@ -1,4 +1,4 @@
-use Rattle.std.proofs.Common.{◌-◌, arith, length, map, refl}
+use Rattle.std.proofs.Common.{◌-◌, arith, length, map}
 use Rattle.state_model.specs.declared.Two.TheVariants.{Cphase}
 use Rattle.state_model.specs.Amplitudes.{IsTwoGateRow}
 use Rattle.omega_ring.specs.Views.{omega_value}
