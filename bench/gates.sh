@@ -13,21 +13,15 @@ fi
 cc -O2 -fopenmp "$root/bench/gates_libquantum.c" -o "$room/theirs" -lquantum -lm
 "$root/bench/timing_program.sh" gate_timing "$room/ours"
 
-OMP_NUM_THREADS=1 python3 - "$room" <<'PYTHON'
-import os, subprocess, sys
+OMP_NUM_THREADS=1 PYTHONDONTWRITEBYTECODE=1 PYTHONPATH="$root/bench" python3 - "$room" <<'PYTHON'
+import sys
+from spent import spent
 
 room = sys.argv[1]
 
-def seconds(program, words):
-    """The processor time of a run."""
-    child = subprocess.Popen([f"{room}/{program}"] + words, stdout=subprocess.DEVNULL)
-    _, status, usage = os.wait4(child.pid, 0)
-    assert status == 0
-    return usage.ru_utime + usage.ru_stime
-
 def each(program, word):
     """Microseconds for one: 10 words are 10,000 more than none."""
-    return (seconds(program, [word] * 10) - seconds(program, [])) * 1e6 / 10_000
+    return (spent([f"{room}/{program}"] + [word] * 10) - spent([f"{room}/{program}"])) * 1e6 / 10_000
 
 for name, word in ("Hadamard and turn", "pairs"), ("CNOT", "nots"):
     runs = [(each("ours", word), each("theirs", word)) for _ in range(9)]

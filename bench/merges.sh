@@ -7,8 +7,9 @@ room=$(mktemp -d)
 trap 'rm -rf "$room"' EXIT
 "$root/bench/timing_program.sh" gate_timing "$room/ours"
 
-python3 - "$room" <<'PYTHON'
-import os, subprocess, sys
+PYTHONDONTWRITEBYTECODE=1 PYTHONPATH="$root/bench" python3 - "$room" <<'PYTHON'
+import sys
+from spent import spent
 
 room = sys.argv[1]
 
@@ -17,14 +18,10 @@ BATCHES = 10
 
 def seconds(words):
     """The processor time of a run that does as many merges as it was asked for."""
-    child = subprocess.Popen([f"{room}/ours", "6"] + words, stdout=subprocess.PIPE)
-    said = child.stdout.read()
-    _, status, usage = os.wait4(child.pid, 0)
-    assert status == 0 and said.split()[0] == b"%d" % (1_000 * len(words)), said
-    return usage.ru_utime + usage.ru_stime
+    return spent([f"{room}/ours", "6"] + words, b"%d " % (1_000 * len(words)))
 
 runs = sorted((seconds(["merges"] * BATCHES) - seconds([])) * 1e6 / (1_000 * BATCHES) for _ in range(9))
-for spent in runs:
-    print(f"{spent:.1f} us")
+for each in runs:
+    print(f"{each:.1f} us")
 print(f"median: {runs[len(runs) // 2]:.1f} us for a merge of 6 and 6 qubits")
 PYTHON

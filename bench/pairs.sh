@@ -7,8 +7,9 @@ room=$(mktemp -d)
 trap 'rm -rf "$room"' EXIT
 "$root/bench/timing_program.sh" core_timing "$room/ours"
 
-python3 - "$room" <<'PYTHON'
-import os, subprocess, sys
+PYTHONDONTWRITEBYTECODE=1 PYTHONPATH="$root/bench" python3 - "$room" <<'PYTHON'
+import sys
+from spent import spent
 
 room = sys.argv[1]
 
@@ -16,11 +17,7 @@ PAIRS = 200_000
 
 def seconds(pairs):
     """The processor time of a run, in which all pairs agree."""
-    child = subprocess.Popen([f"{room}/ours", str(pairs)], stdout=subprocess.PIPE)
-    said = child.stdout.read()
-    _, status, usage = os.wait4(child.pid, 0)
-    assert status == 0 and said == b"%d pairs, %d agree\n" % (pairs, pairs), said
-    return usage.ru_utime + usage.ru_stime
+    return spent([f"{room}/ours", str(pairs)], b"%d pairs, %d agree\n" % (pairs, pairs))
 
 runs = sorted(PAIRS / (seconds(PAIRS) - seconds(0)) for _ in range(9))
 for rate in runs:

@@ -3,7 +3,7 @@ use Rattle.std.proofs.Common.{◌≡◌, ◌≢◌, ℕ, zero, suc, ◌<◌, ◌
 use Rattle.std.proofs.lemmas.List.{length-map, get_or_read, get_or-take, map-set}
 use Rattle.std.proofs.Math.Seq.{take-set-lt}
 use native.Mathlib.Nat.{pow-le-pow_right}
-use Rattle.amplitude_register.specs.States.{Next, empty, draft, prepared, RegisterState, IsDraft, IsPrepared, IsKept, IsSealed, IsRefused, next_value, prepared_qubits, with_row, zeros, IsPresent, with_list, IsGateStep, IsNextKept}
+use Rattle.amplitude_register.specs.States.{Next, empty, draft, prepared, RegisterState, IsDraft, IsPrepared, IsKept, IsSealed, IsRefused, next_value, prepared_qubits, with_row, zeros, IsPresent, IsGateStep, IsNextKept}
 use Rattle.amplitude_register.specs.Held.{IsBlock, IsStage, next_of, amplitudes_of}
 use Rattle.amplitude_register.specs.declared.block.Stage.{Stage}
 use Rattle.amplitude_register.specs.declared.block.Stage.TheVariants.{Empty, Open, Weighed, Prepared}
@@ -80,13 +80,6 @@ present_is Empty a h = absurd h
 
 pub present_value : (o : RegisterState) (l : ℕ) (v : Amplitudes) (s : Stage) (a : Amplitudes) → state l v (next_of s a) ≡ o → IsPresent o.next → next_value o.next ≡ a
 present_value o l v s a e h = ap (λ (t : RegisterState). next_value t.next) (sym e) ∙ present_is s a (subst (λ (t : RegisterState). IsPresent t.next) (sym e) h)
-
--- a present next value with another list
-with_list_is : (s : Stage) (qs : List ℕ) (xs ys : List Coefficient) → with_list (next_of s record { qubits = qs; list = xs }) ys ≡ next_of s record { qubits = qs; list = ys }
-with_list_is Open qs xs ys = refl
-with_list_is Weighed qs xs ys = refl
-with_list_is Prepared qs xs ys = refl
-with_list_is Empty qs xs ys = refl
 
 -- what a gate on the rows of the second block makes of the register
 pub gate_step : (m : Matrix) (place n : ℕ) (o : RegisterState) (l : ℕ) (v : Amplitudes) (s : Stage) (qs : List ℕ) (xs ys : List Coefficient) → state l v (next_of s record { qubits = qs; list = xs }) ≡ o → IsPresent o.next
@@ -231,9 +224,6 @@ pub take_one : (xs : List ℕ) (q : ℕ) → length xs ≡ 12 → take 1 (slice_
 take_one [] q h = absurd (omega arith)
 take_one (x ∷ xs) q h = refl
 
-pub one_le : (n : ℕ) → 1 ≤ 2 ^ n
-one_le n = power_le 0 n (omega arith)
-
 pub two_le : (n : ℕ) → 1 ≤ n → 2 ≤ 2 ^ n
 two_le n h = power_le 1 n h
 
@@ -348,16 +338,6 @@ exchanged_scale = refl
 
 pub open_nonzero : (o : RegisterState) (l : ℕ) (v : Amplitudes) (s : Stage) (a : Amplitudes) → state l v (next_of s a) ≡ o → IsDraft o.next → IsNonzero (next_value o.next).list → IsNonzero a.list
 open_nonzero o l v s a e p h = subst (λ (t : Amplitudes). IsNonzero t.list) (open_value o l v s a e p) h
-
--- a block with another list
-pub same_block : (limit : ℕ) (b c : Block) → IsBlock limit b → c.rows ≡ b.rows → c.count ≡ b.count → c.qubits ≡ b.qubits → length c.entries.items ≡ length b.entries.items → IsBlock limit c
-same_block limit b c h r n q l = record {
-  rows = r ∙ h.rows ∙ ap (λ (k : ℕ). 2 ^ k) (sym n);
-  count = subst (λ (k : ℕ). k ≤ limit) (sym n) h.count;
-  room = l ∙ h.room;
-  numbers = ap length q ∙ h.numbers;
-  distinct = subst AreDistinct (ap (λ (k : ℕ). take k b.qubits) (sym n) ∙ ap (take c.count) (sym q)) h.distinct;
-}
 
 pub distinct_pair_weighed : (vs : List Coefficient) → vs ≡ one_coefficient ∷ zero_coefficient ∷ zero_coefficient ∷ one_coefficient ∷ [] → record { x = pos 2; y = pos 0 } ≡ total_weight vs
 distinct_pair_weighed vs e = ap total_weight (sym e)

@@ -30,3 +30,13 @@ value_range b h i = within_sum (list_of b) (further (total_weight (list_of b)).x
 
 pub value_weight : (b : Block) → IsWeighed b → IsKept (amplitudes_of b) → (unsigned_abs b.weight.x < 2 ^ 122) × (unsigned_abs b.weight.y < 2 ^ 122)
 value_weight b w h = small_of (list_of b) (weight_value b.weight) w (subst (λ (t : Weight). t.x <ℤ pos (2 ^ 122)) (sym w) (further (total_weight (list_of b)).x h.small))
+
+-- ---- the second block, once it took on the value's head
+abbrev pub headed : Block → Block → Block
+headed v n = record { qubits = v.qubits; count = v.count; rows = v.rows; weight = v.weight; entries = n.entries }
+
+pub headed_room : (v n h : Block) → h ≡ headed v n → length h.entries.items ≡ length n.entries.items
+headed_room v n h e = ap (λ (b : Block). length b.entries.items) e
+
+pub headed_fit : (l : ℕ) (v n h : Block) → IsBlock l v → IsBlock l n → h ≡ headed v n → v.rows ≤ length h.entries.items
+headed_fit l v n h is_v is_n e = let r = headed_room v n h e in let f = rows_fit l v n is_v is_n in omega (arith, r, f)

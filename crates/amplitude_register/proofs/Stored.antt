@@ -175,9 +175,6 @@ rest_small x y h p q e = (omega (arith, ints), omega (arith, ints))
 pub rest_is : (x y h : ℤ) → unsigned_abs x < 2 ^ 61 → unsigned_abs y < 2 ^ 61 → x -ℤ y ≡ h +ℤ h → short (short x -ℤ short h) ≡ x -ℤ h
 rest_is x y h p q e = let k = rest_small x y h p q e in let s = short_sub (short x) (short h) x h (short_self x (omega (arith, ints))) (short_self h (k.0)) (k.1) in s.value
 
-pub rest_fits : (x y h : ℤ) → unsigned_abs x < 2 ^ 61 → unsigned_abs y < 2 ^ 61 → x -ℤ y ≡ h +ℤ h → FitsSigned w64 (short x -ℤ short h)
-rest_fits x y h p q e = let k = rest_small x y h p q e in fits_difference (short x) (short h) x h (short_self x (omega (arith, ints))) (short_self h (k.0)) (k.1)
-
 pub half_is : (x y h : ℤ) → unsigned_abs x < 2 ^ 61 → unsigned_abs y < 2 ^ 61 → x -ℤ y ≡ h +ℤ h → short h ≡ h
 half_is x y h p q e = short_is h ((rest_small x y h p q e).0)
 

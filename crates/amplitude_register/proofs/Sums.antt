@@ -87,9 +87,6 @@ entry_below (v ∷ vs) (suc i) = let h = real_weight v in later (weight v) (tota
     later u w t h k = omega (arith, order)
 
 -- ---- sizes
-fourth : (n m : ℕ) → n * n < m * m → n < m
-fourth n m h = root_of n m h
-
 -- the coordinates of entries whose squares sum up to less than 2^122
 pub within_sum : (vs : List Coefficient) → (total_weight vs).x <ℤ pos (2 ^ 122) → (i : ℕ) → CoordinatesBelow (2 ^ 61) (at vs i)
 within_sum vs h i = within_weight (at vs i) (let k = entry_below vs i in less_along (weight (at vs i)).x (total_weight vs).x k h)

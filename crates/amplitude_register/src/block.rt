@@ -16,6 +16,18 @@ pub(crate) struct Block {
     pub(crate) entries: Vec<Omega>,
 }
 
+impl Block {
+    /// Takes on another block's qubits, number of rows and weight; the entries stay.
+    pub(crate) fn take_head(&mut self, other: &Block)
+        ensures { self.new ≡ record self.old { qubits = other.now.qubits; count = other.now.count; rows = other.now.rows; weight = other.now.weight } }
+    {
+        self.qubits = other.qubits;
+        self.count = other.count;
+        self.rows = other.rows;
+        self.weight = other.weight;
+    }
+}
+
 /// What the second block of a register holds.
 #[derive(Clone, Copy, PartialEq, Eq, Debug, Drop)]
 pub(crate) enum Stage {

@@ -16,9 +16,7 @@ impl Register {
         ensures { IsGateStep (matrix H) place 2 (record self.old { next = draft self.old.value }) self.new }
     {
         let _limit = self.limit;
-        self.next.qubits = self.value.qubits;
-        self.next.count = self.value.count;
-        self.next.rows = self.value.rows;
+        self.next.take_head(&self.value);
         self.next.weight = double(self.value.weight);
         passes::mix_front_into(
             &mut self.next.entries,
@@ -36,10 +34,7 @@ impl Register {
         ensures { IsGateStep (matrix (RotZ eighths)) place 1 (record self.old { next = prepared self.old.value }) self.new }
     {
         let _limit = self.limit;
-        self.next.qubits = self.value.qubits;
-        self.next.count = self.value.count;
-        self.next.rows = self.value.rows;
-        self.next.weight = self.value.weight;
+        self.next.take_head(&self.value);
         passes::turn_front_into(
             &mut self.next.entries,
             &self.value.entries,
@@ -58,10 +53,7 @@ impl Register {
         ensures { IsTwoGateStep Cnot control target (record self.old { next = prepared self.old.value }) self.new }
     {
         let _limit = self.limit;
-        self.next.qubits = self.value.qubits;
-        self.next.count = self.value.count;
-        self.next.rows = self.value.rows;
-        self.next.weight = self.value.weight;
+        self.next.take_head(&self.value);
         two_passes::exchange_where_front_into(
             &mut self.next.entries,
             &self.value.entries,
@@ -80,10 +72,7 @@ impl Register {
         ensures { IsTwoGateStep Cphase one two (record self.old { next = prepared self.old.value }) self.new }
     {
         let _limit = self.limit;
-        self.next.qubits = self.value.qubits;
-        self.next.count = self.value.count;
-        self.next.rows = self.value.rows;
-        self.next.weight = self.value.weight;
+        self.next.take_head(&self.value);
         two_passes::negate_where_front_into(
             &mut self.next.entries,
             &self.value.entries,

@@ -1,4 +1,5 @@
-//! Gates in one pass from the rows of one list to those of another.
+//! Gates in one pass from the rows of one list to those of another. Rows are written from the last to the first: the
+//! halves of a row are stored in that order, and so the lines of the cache fill one after the other.
 ghost use Rattle.std.specs.Prelude.{◌≡◌, ◌<◌, ◌≤◌, ◌^◌, false, length, take};
 ghost use Rattle.state_model.specs.Row.{with_bit};
 ghost use Rattle.state_model.specs.Gate.{matrix};

@@ -191,10 +191,7 @@ impl Register {
     pub fn prepare_same(&mut self)
         ensures { self.new ≡ record self.old { next = prepared self.old.value } }
     {
-        self.next.qubits = self.value.qubits;
-        self.next.count = self.value.count;
-        self.next.rows = self.value.rows;
-        self.next.weight = self.value.weight;
+        self.next.take_head(&self.value);
         fronts::copy_front(&mut self.next.entries, &self.value.entries, self.value.rows);
         self.stage = Stage::Prepared;
     }
@@ -269,6 +266,16 @@ impl Register {
     {
         self.next.entries[row as usize] = z;
         self.stage = Stage::Open;
+    }
+
+    /// Tells the weight of the draft, which `seal` then needn't sum up.
+    pub fn weigh(&mut self, weight: Weight)
+        requires open { IsDraft self.old.next }
+        requires weight { weight_value weight ≡ total_weight (next_value self.old.next).list }
+        ensures { self.new ≡ self.old }
+    {
+        self.next.weight = weight;
+        self.stage = Stage::Weighed;
     }
 
     /// Makes of each two rows of the draft that differ in the bit at the place their sum and their difference,

@@ -1,4 +1,4 @@
-//! Gates of two qubits in one pass from the rows of one list to those of another.
+//! Gates of two qubits in one pass from the rows of one list to those of another, from the last row to the first.
 ghost use Rattle.std.specs.Prelude.{◌≡◌, ◌+◌, ◌<◌, ◌≤◌, ◌^◌, ◌++◌, cond, length, take, drop};
 ghost use Rattle.state_model.specs.Row.{is_set, turned};
 ghost use Rattle.state_model.specs.declared.Two.TheVariants.{Cnot, Cphase};

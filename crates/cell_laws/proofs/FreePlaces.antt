@@ -1,9 +1,8 @@
 -- Free numbers and free slots below a bound.
---     free_number, second_free_number    where fewer numbers are live than the bound, or two fewer
---     free_slot                          where fewer numbers are live than the bound
---     shared_slot                        where two live numbers share a home
+--     free_number, free_slot    where fewer numbers are live than the bound
+--     shared_slot               where two live numbers share a home
 use Prim.Native.Nat.{suc}
-use Rattle.std.proofs.Common.{◌≡◌, ◌≢◌, ℕ, ◌+◌, ◌*◌, ◌<◌, ◌≤◌, ◌==◌, Bool, true, false, not, ◌&&◌, ◌||◌, List, [], ◌∷◌, map, length, count_by, All, refl, sym, ap, subst, ◌∙◌, arith}
+use Rattle.std.proofs.Common.{◌≡◌, ◌≢◌, ℕ, ◌*◌, ◌<◌, ◌≤◌, ◌==◌, Bool, true, false, not, ◌&&◌, ◌||◌, List, [], ◌∷◌, map, length, count_by, All, refl, sym, ap, subst, ◌∙◌, arith}
 use Rattle.std.proofs.lemmas.List.Elements.{All-nil, All-cons}
 use Rattle.state_model.specs.Row.{is_listed, without}
 use Rattle.state_model.specs.Amplitudes.{AreDistinct}
@@ -30,12 +29,6 @@ pub free_number : (live : List ℕ) (n : ℕ) → length live < n → least_free
 free_number live n h = below _ _ _ (least_free_high live) h
   where
     below : (a b n : ℕ) → a ≤ b → b < n → a < n
-    below a b n h k = omega arith
-
-pub second_free_number : (live : List ℕ) (p n : ℕ) → length live + 1 < n → least_free (p ∷ live) < n
-second_free_number live p n h = below _ _ _ (least_free_high (p ∷ live)) h
-  where
-    below : (a b n : ℕ) → a ≤ suc b → b + 1 < n → a < n
     below a b n h k = omega arith
 
 pub free_slot : (live : List ℕ) (home : ℕ → ℕ) (n : ℕ) → length live < n → least_free (used_slots live home) < n

@@ -72,11 +72,6 @@ pub group_length : (shape : Shape) (s : Network) (home : ℕ → ℕ) (q : ℕ) 
     → length r.qubits ≡ length (group_of s q)
 group_length shape s home q r sound live fits apart = same_length r.qubits (group_of s q) apart (group_distinct shape s sound q) (group_members shape s home q r live fits)
 
--- the register is within the limit
-pub within_limit : (shape : Shape) (s : Network) (home : ℕ → ℕ) (q : ℕ) (r : Register) → IsSound shape s → is_listed s.live q ≡ true → FitsSlot shape s home (home q) r → AreDistinct r.qubits
-    → length r.qubits ≤ shape.limit
-within_limit shape s home q r sound live fits apart = subst (λ n. n ≤ shape.limit) (sym (group_length shape s home q r sound live fits apart)) (sound.limit q live)
-
 -- ---- sizes
 -- the size of a part's group is that of the part
 pub part_size : (g : List ℕ) (v u : Vector) (n : ℕ) → ¬ ((x : ℕ) → v x ≡ zero_coefficient) → IsPart v g u → HasSizeAtLeast v g n ↔ HasSizeAtLeast u g n
@@ -117,10 +112,6 @@ part_list v u g list part same = part_along g v u (register_vector g list) part 
 -- vectors with equal coefficients are the same
 pub same_pointwise : (v u : Vector) → ((x : ℕ) → v x ≡ u x) → IsSameState v u
 same_pointwise v u each = subst (λ (w : Vector). IsSameState v w) (fun_ext each) (same_reflexive v)
-
--- the limit is the shape's
-pub with_limit : (shape : Shape) (s : Network) (home : ℕ → ℕ) (slot : ℕ) (r : Register) → FitsSlot shape s home slot r → FitsSlot shape s home slot (record r { limit = shape.limit })
-with_limit shape s home slot r fits = record { limit = refl; homes = fits.homes; group = fits.group; part = fits.part }
 
 -- the same numbers, labels and homes, and a part of another vector
 pub refits : (shape : Shape) (s : Network) (home : ℕ → ℕ) (slot : ℕ) (r : Register) (t : Network) (list : List Coefficient) → FitsSlot shape s home slot r → t.live ≡ s.live → t.label ≡ s.label

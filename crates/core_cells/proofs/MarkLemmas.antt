@@ -1,6 +1,6 @@
 -- Marks and the numbers that are marked: `listed_at` reads a mark as whether its number is listed, and what one
 -- write of a mark does to the numbers follows.
-use Rattle.std.proofs.Common.{◌≡◌, ℕ, zero, suc, ◌+◌, ◌<◌, ◌==◌, Bool, true, false, not, ◌&&◌, ◌||◌, nat_lt, List, [], ◌∷◌, length, replicate, slice_index_or, slice_set, refl, sym, ap, ◌∙◌, arith}
+use Rattle.std.proofs.Common.{◌≡◌, ℕ, zero, suc, ◌+◌, ◌<◌, ◌==◌, Bool, true, false, not, ◌&&◌, ◌||◌, List, [], ◌∷◌, length, replicate, slice_index_or, slice_set, refl, sym, ap, ◌∙◌, arith}
 use Rattle.std.proofs.lemmas.List.{get_or-set_same, get_or-set_other}
 use Rattle.state_model.specs.Row.{is_listed}
 use Rattle.state_model.proofs.Booleans.{clash, eq_true, eq_false, eq_of, ne_of, or_true, or_false, and_true, and_false}
@@ -79,7 +79,3 @@ marked marks n within q = listed_at (slice_set marks n true) q ∙ by (q == n) r
     by false e =
         get_or-set_other marks n q true false (ne_of q n e) ∙ sym (listed_at marks q)
         ∙ sym (ap (λ b. is_listed (positions marks) q || b) e ∙ or_false (is_listed (positions marks) q))
-
--- the numbers below n and n are those below n + 1
-pub one_more : (q n : ℕ) → (nat_lt q n || (q == n)) ≡ nat_lt q (n + 1)
-one_more q n = grind arith

@@ -9,7 +9,7 @@ use Rattle.cqc_model.specs.declared.Instr.{Instr}
 use Rattle.cqc_model.specs.declared.Instr.TheVariants as instr
 use Rattle.cqc_model.specs.declared.BodyFault.{BodyFault}
 use Rattle.cqc_model.specs.declared.BodyFault.TheVariants as body_fault
-use Rattle.cqc_model.specs.Plan.{COMMAND, Plan, steps, commands, commands_most, command_fault, command_of, command_size, with_command, unrolled, unrolled_as, instr_of, is_unknown, is_built_instr, list_plan, body_plan}
+use Rattle.cqc_model.specs.Plan.{COMMAND, steps, commands, commands_most, command_fault, command_of, command_size, with_command, unrolled, unrolled_as, instr_of, is_unknown, is_built_instr, list_plan, body_plan}
 use Rattle.cqc_wire.specs.Body.{command_count}
 use Rattle.cqc_session.specs.Body.{listed, left_at, notifies}
 
@@ -36,10 +36,6 @@ most_step : (n place : ℕ) (b : List ℕ) → 0 < length b
 most_step n place b h =
     let none : (length b == 0) ≡ false = grind (arith, nat_tests) in
     ap (λ (t : Bool). if t then Ok [] else with_command (command_fault place b) (command_of b) (commands_most n (place + command_size (slice_index b 2)) (drop (command_size (slice_index b 2)) b))) none
-
-most_none : (n place : ℕ) → commands_most n place [] ≡ Ok []
-most_none zero place = refl
-most_none (suc n) place = refl
 
 -- a list without a fault
 pub ok_listed : (r : Result (List Command) BodyFault) → is_ok r ≡ true → r ≡ Ok (listed r)
@@ -183,10 +179,6 @@ pub plan_listed : (b : List ℕ) (cs : List Command) → commands b ≡ Ok cs �
 plan_listed b cs e =
     ap (list_plan 1 false) e
     ∙ ap (λ (x : List Command). steps x (notifies cs)) (append-nil (flat_map unrolled cs) ∙ themselves b cs e)
-
--- the plan of a COMMAND body with a fault
-pub plan_faulty : (b : List ℕ) (f : BodyFault) (r : Plan) → commands b ≡ Err f → list_plan 1 false (Err f) ≡ r → body_plan COMMAND b ≡ r
-plan_faulty b f r e is = ap (list_plan 1 false) e ∙ is
 
 -- the commands at a place, where they are known
 pub left_is : (body : List ℕ) (at : ℕ) (cs : List Command) → commands (drop at body) ≡ Ok cs → left_at body at ≡ cs

@@ -146,9 +146,3 @@ part_said text held wrote done s = record {
   gave = s.wrote;
   short = (drop done text, omega (arith, length-drop done text, s.part refl), take-append-drop done text);
 }
-
--- a text that was sent whole
-pub whole_said : (text : List ℕ) (held wrote : Option (List ℕ)) (done : ℕ) → Sent true held wrote text done → WasWritten held text wrote
-whole_said text held wrote done s =
-    let all : take done text ≡ text = take_all done text (omega (arith, s.whole refl)) in
-    subst (λ (x : List ℕ). WasWritten held x wrote) all s.wrote

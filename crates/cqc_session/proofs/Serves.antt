@@ -347,11 +347,6 @@ answer_goes connection cap left rest_left held said wrote now old mid new seen c
 answer_goes connection cap left rest_left held said wrote now old mid new seen capacity v w call (Err f) a did e = absurd e
 
 -- The same between states of a session.
-pub record Kept (connection : Connection) (cap capacity : ℕ) (s : State) (core_capacity : ℕ) : Type 0 where
-  pub place_is : s.connection ≡ connection
-  pub cap_is : s.cap ≡ cap
-  pub capacity_is : core_capacity ≡ capacity
-
 pub poll_goes : (connection : Connection) (cap : ℕ) (left mid rest_left held said wrote : Option (List ℕ)) (s t : State) (old new : List Entry)
     → Serving connection cap left mid held said s.budget old new s.work → s.connection ≡ connection
     → Spoke s.connection s.work mid rest_left said wrote s.budget t.budget t.work → Serving connection cap left rest_left held wrote t.budget old new t.work

@@ -80,11 +80,6 @@ pub count_ends : (before place : ℕ) (b : List ℕ) (f : BodyFault) → 0 < len
     → count_after before (commands_from place b) ≡ Err f
 count_ends before place b f h fault = rw (front_and_behind place b h, fault) refl
 
--- at the end nothing more is counted
-pub count_at_end : (before place : ℕ) (b : List ℕ) → length b ≡ 0 → count_after before (commands_from place b) ≡ Ok before
-count_at_end before place [] h = ap Ok (omega arith)
-count_at_end before place (x ∷ t) h = absurd (omega arith)
-
 -- the first fault of a command by what four tests say
 abbrev pub first_fault : ℕ → Bool → Bool → Bool → Bool → Option BodyFault
 first_fault place short unknown optional cut =

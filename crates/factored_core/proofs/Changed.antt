@@ -107,10 +107,6 @@ pub changed-node_at : (cs : Cells) (ch : Changes) (k : ℕ) (w : NodePair) → c
 unfolding changed
 changed-node_at cs ch k w is = ap (option_map (with_next_node (change_at ch.nodes k))) is
 
-pub changed-pool_at : (cs : Cells) (ch : Changes) (w : PoolPair) → cs.pool ≡ Some w → (changed cs ch).pool ≡ Some (with_next_pool ch.pool w)
-unfolding changed
-changed-pool_at cs ch w is = ap (option_map (with_next_pool ch.pool)) is
-
 pub changed-slot_at : (cs : Cells) (ch : Changes) (k : ℕ) (w : SlotCell) → cs.slot k ≡ Some w → (changed cs ch).slot k ≡ Some (with_next_slot (change_at ch.slots k) w)
 unfolding changed
 changed-slot_at cs ch k w is = ap (option_map (with_next_slot (change_at ch.slots k))) is

@@ -145,9 +145,6 @@ module _ (shape : Shape) (c : Call) (cs : Cells) (own : Node) (o : Option ℕ) (
       let id = two_instr c.command.instr k e in
       clash (sym (second_is_held shape c own o known.free k (id.0) (id.1)) ∙ ap is_some (sym (second_instr c.app own c.command.instr k (id.0) (id.1)) ∙ none))
 
-  pub second_home : (q : ℕ) → second_of c.app own c.command.instr ≡ Some q → HasHome cs q
-  second_home q e = let r = known.ready in (r.has).second q (ap (λ (n : Node). second_of c.app n c.command.instr) (sym r.own_is) ∙ e)
-
   pub two_call : (k : Two) (first second : ℕ) → Some k ≡ option_map (λ (t : Two × ℕ). t.0) (two_of c.command.instr) → number_of own.handles c.app c.command.qubit ≡ Some first
       → second_of c.app own c.command.instr ≡ Some second → IsTwoCall c own k first second
   two_call k first second e f g =

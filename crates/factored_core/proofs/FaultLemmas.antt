@@ -3,7 +3,7 @@
 use Rattle.std.proofs.Common.{◌≡◌, ◌≢◌, ℕ, ◌%◌, ◌<◌, ◌≤◌, ◌==◌, nat_lt, Bool, true, false, not, cond, ◌&&◌, List, [], ◌∷◌, ◌++◌, length, position, Option, None, Some, IsSome, is_some, is_none, option_map, unwrap_or, refl, sym, ap, subst, ◌∙◌}
 use Rattle.std.proofs.lemmas.List.Quantifiers.{position-Some}
 use Rattle.state_model.specs.declared.Two.{Two}
-use Rattle.state_model.proofs.Booleans.{clash, eq_true, eq_of, ne_of, not_false}
+use Rattle.state_model.proofs.Booleans.{clash, eq_true, ne_of}
 use Rattle.cqc_model.specs.declared.Fault.{Fault}
 use Rattle.cqc_model.specs.declared.Fault.TheVariants.{General, NoQubit, Unsupported, Timeout, Unknown}
 use Rattle.cqc_model.specs.declared.Instr.{Instr}
@@ -289,10 +289,6 @@ module _ (shape : Shape) (c : Call) (own : Node) (other : Option ℕ) (free : ce
   pub second_is_other : (two : Two) (id : ℕ) → two_of c.command.instr ≡ Some (two, id) → id ≢ c.command.qubit
   second_is_other two id is = ne_of id c.command.qubit (sym (ap (λ o. fails o (λ t. t.1 == c.command.qubit)) is) ∙ allowed.distinct)
 
-  -- a rotation turns by eighths
-  pub turns_by_eighths : (step : ℕ) → rotation_of c.command.instr ≡ Some step → step % 32 ≡ 0
-  turns_by_eighths step is = eq_of (step % 32) 0 (not_false (step % 32 == 0) (sym (ap (λ o. fails o (λ step. not (step % 32 == 0))) is) ∙ allowed.angle))
-
   -- a transfer has another node with room
   pub other_has_room : (r : Remote) → remote_of c.command.instr ≡ Some r → (l : ℕ) × (other ≡ Some l) × (l < shape.room)
   other_has_room r is = by other refl
@@ -335,11 +331,6 @@ unfolding other_of other_at remote_node
 other_is_remote shape c r n is e =
     let found = other_than_is c.node (node_at shape r) n (sym (ap (other_at shape c.node) is) ∙ e) in
     (ap (λ o. unwrap_or o c.node) (found.0), found.1)
-
--- only a transfer has another node
-pub other_is_of_transfer : (shape : Shape) (c : Call) → remote_of c.command.instr ≡ None → other_of shape c ≡ None
-unfolding other_of other_at
-other_is_of_transfer shape c is = ap (other_at shape c.node) is
 
 -- the other node is a node
 pub other_within : (shape : Shape) (c : Call) (n : ℕ) → other_of shape c ≡ Some n → n < length shape.places

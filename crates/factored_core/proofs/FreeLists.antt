@@ -85,7 +85,3 @@ module _ (bound : ℕ) (taken free : List ℕ) (are : AreFree bound taken free) 
       by true false false h = refl
       by false y true h = absurd (clash (sym (h refl)))
       by false y false h = refl
-
-  -- other lists with the same numbers
-  pub same_free : (taken' free' : List ℕ) → ((q : ℕ) → is_listed free' q ≡ is_listed free q) → ((q : ℕ) → is_listed taken' q ≡ is_listed taken q) → AreFree bound taken' free'
-  same_free taken' free' f t q = f q ∙ are q ∙ sym (ap (λ b. nat_lt q bound && not b) (t q))

@@ -6,18 +6,15 @@ use Rattle.state_model.proofs.Booleans.{clash}
 use Rattle.cqc_model.specs.declared.Fault.{Fault}
 use Rattle.cqc_model.specs.declared.Fault.TheVariants.{General, NoQubit, Unsupported, Timeout, Unknown}
 use Rattle.cqc_model.specs.declared.Instr.{Instr}
-use Rattle.cqc_model.specs.declared.Instr.TheVariants.{I, New, Measure, MeasureInplace, Reset, Send, Recv, Epr, EprRecv, X, Z, Y, T, RotX, RotY, RotZ, H, K, Cnot, Cphase, Allocate, Release}
-use Rattle.cqc_model.specs.declared.PairInfo.{PairInfo}
-use Rattle.network_model.specs.Network.{Network, Shape, Waiting, load, queue}
-use Rattle.network_model.specs.Step.{refusal, first_fault, fails, is_measurement, is_without_operand, is_making, is_pair, gate_of, two_of, rotation_of, remote_of, line_of, operand, own_number, other_number, remote_node, united_group, effect, effect_of, quiet, after_gate, after_two, received, received_first, pair_reply, draws, IsTooLarge, IsReply}
+use Rattle.cqc_model.specs.declared.Instr.TheVariants.{Measure, MeasureInplace, Reset, Allocate, Release}
+use Rattle.network_model.specs.Network.{Network, Shape, load, queue}
+use Rattle.network_model.specs.Step.{refusal, first_fault, fails, is_measurement, is_without_operand, is_making, is_pair, gate_of, two_of, rotation_of, remote_of, line_of, operand, own_number, other_number, remote_node, united_group, effect, draws, IsTooLarge, IsReply}
 use Rattle.network_model.specs.History.{IsLegalEntry, is_error, advance}
 use Rattle.network_model.specs.declared.Call.{Call}
 use Rattle.network_model.specs.declared.CoreReply.{CoreReply}
 use Rattle.network_model.specs.declared.CoreReply.TheVariants as reply
-use Rattle.network_model.specs.declared.Line.{Line}
 use Rattle.network_model.specs.declared.Line.TheVariants as line
 use Rattle.factored_core.specs.Ranges.{IsCallInRange}
-use Rattle.factored_core.proofs.FaultLemmas.{first_none}
 
 -- ---- replies
 module _ (shape : Shape) (s : Network) (c : Call) (word : ℕ) where
@@ -150,68 +147,7 @@ legal_entry shape s c w r range node allowed word drawn is = record {
   reply = is;
 }
 
--- a refused call changes nothing
-pub advance_refused : (shape : Shape) (s : Network) (c : Call) (w : Option ℕ) (f : Fault) → advance shape s (record { call = c; word = w; reply = reply.Error f }) ≡ s
-unfolding advance is_error
-advance_refused shape s c w f = refl
-
 -- any other goes to its effect
 pub advance_done : (shape : Shape) (s : Network) (c : Call) (w : Option ℕ) (r : CoreReply) → is_error r ≡ false → advance shape s (record { call = c; word = w; reply = r }) ≡ (effect shape s c (unwrap_or w 0)).state
 unfolding advance
 advance_done shape s c w r e = ap (λ b. cond b s ((effect shape s c (unwrap_or w 0)).state)) e
-
--- where a call is not refused, its effect's reply is no error
-module _ (shape : Shape) (s : Network) (c : Call) (word : ℕ) where
-  pair_replies : (id : ℕ) (o : Option PairInfo) → is_error (pair_reply id o) ≡ false
-  unfolding is_error pair_reply
-  pair_replies id None = refl
-  pair_replies id (Some info) = refl
-
-  receipt_replies : (l : Line) (answer : ℕ → Option PairInfo → CoreReply) → ((id : ℕ) (o : Option PairInfo) → is_error (answer id o) ≡ false) → (es : List Waiting) → (length es == 0) ≡ false
-      → is_error ((received_first s c l answer es).reply) ≡ false
-  unfolding received_first
-  receipt_replies l answer h [] some = cc
-  receipt_replies l answer h (e ∷ es) some = h _ (Waiting.info e)
-
-  effect_replies : (i : Instr) → fails (line_of i) (λ l. length (queue s c.node c.app l) == 0) ≡ false → is_error ((effect_of shape s c word i).reply) ≡ false
-  unfolding effect_of quiet after_gate after_two received line_of is_error
-  effect_replies Recv some = receipt_replies line.Sent (λ id info. reply.Received id) (λ id o. refl) _ some
-  effect_replies EprRecv some = receipt_replies line.Pair pair_reply pair_replies _ some
-  effect_replies I some = refl
-  effect_replies New some = refl
-  effect_replies Measure some = refl
-  effect_replies MeasureInplace some = refl
-  effect_replies Reset some = refl
-  effect_replies (Send r) some = refl
-  effect_replies (Epr r) some = refl
-  effect_replies X some = refl
-  effect_replies Z some = refl
-  effect_replies Y some = refl
-  effect_replies T some = refl
-  effect_replies (RotX step) some = refl
-  effect_replies (RotY step) some = refl
-  effect_replies (RotZ step) some = refl
-  effect_replies H some = refl
-  effect_replies K some = refl
-  effect_replies (Cnot id) some = refl
-  effect_replies (Cphase id) some = refl
-  effect_replies Allocate some = refl
-  effect_replies Release some = refl
-
-  last_line : refusal shape s c ≡ None → fails (line_of c.command.instr) (λ l. length (queue s c.node c.app l) == 0) ≡ false
-  unfolding refusal
-  last_line e =
-      let a = first_none _ _ e in
-      let b = first_none _ _ (a.1) in
-      let d = first_none _ _ (b.1) in
-      let r = first_none _ _ (d.1) in
-      let f = first_none _ _ (r.1) in
-      let g = first_none _ _ (f.1) in
-      let h = first_none _ _ (g.1) in
-      let i = first_none _ _ (h.1) in
-      let j = first_none _ _ (i.1) in
-      (first_none _ _ (j.1)).0
-
-  pub done_is_no_error : refusal shape s c ≡ None → is_error ((effect shape s c word).reply) ≡ false
-  unfolding effect
-  done_is_no_error e = effect_replies c.command.instr (last_line e)

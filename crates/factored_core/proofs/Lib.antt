@@ -9,7 +9,6 @@ pub mod NodeChanges
 pub mod NodeSteps
 pub mod PoolSteps
 pub mod Receipts
-pub mod Room
 pub mod Touched
 pub mod UsedSlots
 pub mod Operands

@@ -1,6 +1,5 @@
 -- Nodes fit after each step that touches them, by the instruction; and what its reply is, from the own node.
 use Rattle.std.proofs.Common.{◌≡◌, ◌≢◌, ◌⊎◌, inl, inr, ℕ, Bool, true, false, List, [], ◌∷◌, ◌++◌, position, slice_get, Option, None, Some, IsSome, is_some, is_none, unwrap_or, refl, sym, ap, subst, ◌∙◌}
-use Rattle.state_model.specs.Row.{is_listed}
 use Rattle.state_model.specs.declared.Gate.{Gate}
 use Rattle.state_model.specs.declared.Two.{Two}
 use Rattle.state_model.proofs.Booleans.{clash}
@@ -8,8 +7,8 @@ use Rattle.cqc_model.specs.declared.Instr.{Instr}
 use Rattle.cqc_model.specs.declared.Instr.TheVariants.{I, New, Measure, MeasureInplace, Reset, Send, Recv, Epr, EprRecv, X, Z, Y, T, RotX, RotY, RotZ, H, K, Cnot, Cphase, Allocate, Release}
 use Rattle.cqc_model.specs.declared.PairInfo.{PairInfo}
 use Rattle.cqc_model.specs.declared.Remote.{Remote}
-use Rattle.network_model.specs.Network.{Network, Shape, Waiting, held_number, queue, IsSound}
-use Rattle.network_model.specs.Step.{effect, effect_of, quiet, after_gate, after_two, taken_out, left_as, received, received_first, pair_reply, pair_info, gate_of, two_of, operand, own_number, other_number, remote_node, least_free, least_id}
+use Rattle.network_model.specs.Network.{Network, Shape, Waiting, held_number, queue}
+use Rattle.network_model.specs.Step.{effect, effect_of, quiet, after_gate, after_two, taken_out, left_as, received, received_first, pair_reply, pair_info, gate_of, two_of, own_number, remote_node, least_free, least_id}
 use Rattle.network_model.specs.Factored.{FitsNode}
 use Rattle.network_model.specs.declared.Call.{Call}
 use Rattle.network_model.specs.declared.CoreReply.{CoreReply}
@@ -17,13 +16,11 @@ use Rattle.network_model.specs.declared.CoreReply.TheVariants as reply
 use Rattle.network_model.specs.declared.Line.{Line}
 use Rattle.network_model.specs.declared.Line.TheVariants as line
 use Rattle.network_model.specs.declared.Place.{Place}
-use Rattle.network_model.proofs.Held.{held_live}
-use Rattle.qubit_handles.specs.Handle.{number_of}
 use Rattle.qubit_handles.proofs.HandleLemmas.{least_is_free}
 use Rattle.virtual_node.specs.Node.{Node, is_waiting, held_map, arrived_map, with_handle, without_held, with_arrival}
 use Rattle.virtual_node.specs.declared.arrival.Arrival.{Arrival}
 use Rattle.epr_transfer.specs.Transfer.{handle_of, sent_to, half_for, first_waiting, next_id, received_by}
-use Rattle.factored_core.proofs.Loads.{same_operand, same_least_id, first_found}
+use Rattle.factored_core.proofs.Loads.{same_least_id, first_found}
 use Rattle.factored_core.proofs.NodeChanges.{same_handles, more_handles, handles_beside_more, less_handles, handles_beside_less, same_queues, more_queues, queues_beside_more}
 use Rattle.factored_core.proofs.Receipts.{IsFirst, first_is, received_handles, received_queues}
 
@@ -57,23 +54,6 @@ unfolding two_of
 two_keeps_nodes (Cnot id) t e = refl
 two_keeps_nodes (Cphase id) t e = refl
 two_keeps_nodes i t e = cc
-
--- ---- the own number
-module _ (s : Network) (c : Call) (n : Node) (fits : FitsNode s c.node (held_map n) (arrived_map n)) where
-  pub own_number_is : (q : ℕ) → number_of n.handles c.app c.command.qubit ≡ Some q → own_number s c ≡ q
-  unfolding own_number
-  own_number_is q e = ap (λ o. unwrap_or o 0) (same_operand s c.node n fits c c.command.qubit refl ∙ e)
-
-  pub other_number_is : (id q : ℕ) → number_of n.handles c.app id ≡ Some q → other_number s c id ≡ q
-  unfolding other_number
-  other_number_is id q e = ap (λ o. unwrap_or o 0) (same_operand s c.node n fits c id refl ∙ e)
-
-  pub operand_is_held : (id : ℕ) → IsSome (number_of n.handles c.app id) → IsSome (operand s c id)
-  operand_is_held id h = subst IsSome (sym (same_operand s c.node n fits c id refl)) h
-
-  -- a number that is held is live
-  pub held_is_live : (shape : Shape) → IsSound shape s → (app id q : ℕ) → number_of n.handles app id ≡ Some q → is_listed s.live q ≡ true
-  held_is_live shape sound app id q e = held_live shape s sound c.node app id q (sym (fits.handles app id) ∙ e)
 
 -- ---- steps
 module _ (shape : Shape) (s : Network) (c : Call) (word : ℕ) where

@@ -19,7 +19,8 @@ use Rattle.network_model.proofs.Least.{least_free_new}
 use Rattle.network_model.proofs.Added.{least_free_high}
 use Rattle.network_model.proofs.Slots.{is_listed-members}
 use Rattle.factored_core.proofs.FreeLists.{AreFree, listed_with, least_is_least_free, least_free_is_listed, one_taken, one_freed}
-use Rattle.factored_core.proofs.Room.{live_within, room_for_one, room_for_two}
+use Rattle.cell_laws.proofs.FreePlaces.{few_live}
+use Rattle.cell_laws.proofs.LiveCounts.{fewer_live, two_fewer}
 use Rattle.factored_core.proofs.UsedSlots.{length_used, one_less, map_same, used_with, used_without_alone, used_without_beside, used_moved_beside, slot_beside, used_gathered}
 
 -- a number that is not listed behind another is not listed in front of it
@@ -98,24 +99,24 @@ module _ (shape : Shape) (s : Network) (home : ℕ → ℕ) (numbers slots : Lis
       → (k : ℕ) → is_listed mid k ≡ true → ((m : ℕ) → m < k → is_listed mid m ≡ false) → k ≡ least_free (n ∷ s.live)
   second_number_is n mid less k listed least = least_is_least_free (length shape.places * shape.room) (n ∷ s.live) mid (beside_first n mid less) k listed least
 
-  below : (a b c : ℕ) → a ≤ b → b + 1 ≤ c → a < c
+  below : (a b c : ℕ) → a ≤ b → b < c → a < c
   below a b c h k = omega arith
 
   -- a number and a slot are free where a node has room
   module _ (m : ℕ) (within : m < length shape.places) (room : load s m < shape.room) where
     pub number_left : is_listed numbers (least_free s.live) ≡ true
-    number_left = least_free_is_listed (length shape.places * shape.room) s.live numbers fits.numbers_free (below _ _ _ (least_free_high s.live) (room_for_one shape s sound m within room))
+    number_left = least_free_is_listed (length shape.places * shape.room) s.live numbers fits.numbers_free (below _ _ _ (least_free_high s.live) (fewer_live shape s sound m within room))
 
     pub slot_left : is_listed slots (least_free (used_slots s.live home)) ≡ true
     slot_left = least_free_is_listed (length shape.places * shape.room) (used_slots s.live home) slots fits.slots_free
-        (below _ _ _ (subst (λ n. least_free (used_slots s.live home) ≤ n) (length_used s.live home) (least_free_high (used_slots s.live home))) (room_for_one shape s sound m within room))
+        (below _ _ _ (subst (λ n. least_free (used_slots s.live home) ≤ n) (length_used s.live home) (least_free_high (used_slots s.live home))) (fewer_live shape s sound m within room))
 
     -- two numbers where two nodes have room
     pub second_left : (k : ℕ) → k < length shape.places → m ≢ k → load s k < shape.room → (n : ℕ) (mid : List ℕ) → ((q : ℕ) → is_listed mid q ≡ (is_listed numbers q && not (q == n))) → is_listed mid (least_free (n ∷ s.live)) ≡ true
     second_left k within_k apart room_k n mid less = least_free_is_listed (length shape.places * shape.room) (n ∷ s.live) mid (beside_first n mid less)
-        (low _ _ _ (least_free_high (n ∷ s.live)) (room_for_two shape s sound m k within within_k apart room room_k))
+        (low _ _ _ (least_free_high (n ∷ s.live)) (two_fewer shape s sound m k within within_k apart room room_k))
       where
-        low : (a b c : ℕ) → a ≤ suc b → b + 2 ≤ c → a < c
+        low : (a b c : ℕ) → a ≤ suc b → b + 1 < c → a < c
         low a b c h k = omega arith
 
   -- a slot is free where a number is not alone in its own
@@ -123,7 +124,7 @@ module _ (shape : Shape) (s : Network) (home : ℕ → ℕ) (numbers slots : Lis
   slot_left_beside housed q live_q more =
       let r = beside_at_home shape s home sound housed q live_q more in
       least_free_is_listed (length shape.places * shape.room) (used_slots s.live home) slots fits.slots_free
-      (less _ _ _ (slot_beside s.live home q (r.0) (r.1) (r.2) (r.3) sound.live_once live_q) (live_within shape s sound))
+      (less _ _ _ (slot_beside s.live home q (r.0) (r.1) (r.2) (r.3) sound.live_once live_q) (few_live s.live (length shape.places * shape.room) sound.live_once sound.live_numbers))
     where
       less : (a b c : ℕ) → a < b → b ≤ c → a < c
       less a b c h k = omega arith

@@ -21,9 +21,6 @@ use Rattle.factored_core.proofs.Changed.{changed-none, node_prepared}
 use Rattle.factored_core.proofs.ChangeLists.{change_nil, change_cons, number_one}
 use Rattle.factored_core.proofs.TwoSteps.{number_two}
 
-no_some : {A : Type 0} (a : A) → None ≡ Some a → ⊥
-no_some a e = cc
-
 once : (a : Bool) → (a || a) ≡ (a || false)
 once true = refl
 once false = refl

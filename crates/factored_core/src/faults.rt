@@ -2,13 +2,11 @@
 ghost use Rattle.std.specs.Prelude.{◌≡◌};
 ghost use Rattle.factored_core.specs.Faults.{cell_fault_of, is_missing as is_missing_by, instr_fault as instr_fault_by, room_fault as room_fault_by, away_fault as away_fault_by, pair_fault as pair_fault_by, limit_fault as limit_fault_by, second_fault as second_fault_by, angle_fault as angle_fault_by, wait_fault as wait_fault_by};
 
+use crate::gates::EIGHTH;
 use crate::needs::needs_no_qubit;
 use cqc_model::{Fault, Instr};
 use network_model::{Call, Line};
 use virtual_node::{Look, NodeCell, Shape};
-
-// A rotation turns by steps of which 32 are an eighth of a turn.
-const EIGHTH: u8 = 32;
 
 /// Why a call is refused, from its own node and the load of the other node of a transfer, if there is one.
 /// The limit of a group that a gate unites, and the bound on sizes, are for registers to decide.

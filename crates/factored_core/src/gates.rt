@@ -18,8 +18,8 @@ use gate_kernels::Gate;
 use network_model::{Call, CoreReply};
 use virtual_node::{NodeCell, Shape};
 
-// A rotation's step in eighths of a turn is the step divided by this.
-const EIGHTH: u8 = 32;
+/// A rotation turns by steps, of which so many are an eighth of a turn.
+pub(crate) const EIGHTH: u8 = 32;
 
 /// The gate of an instruction on one qubit.
 #[tactic(auto, unfolding(network_model::specs::Step::gate_of))]

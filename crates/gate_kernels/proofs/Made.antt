@@ -21,7 +21,7 @@ use Rattle.state_model.proofs.Ring.{⊗_comm, ⊗_assoc}
 use Rattle.state_model.proofs.SameStates.{same_reflexive}
 use Rattle.state_model.proofs.RegisterGates.{gate_list}
 use Rattle.state_model.proofs.GateLists.{first_row, second_row, gate_lists, gate_delta_divisors, gate_nonzero}
-use Rattle.amplitude_register.specs.States.{RegisterState, prepared, next_value, IsDraft, IsPresent, IsNextKept, IsKept, IsGateStep, IsSealed, IsRefused}
+use Rattle.amplitude_register.specs.States.{RegisterState, prepared, next_value, IsNextKept, IsKept, IsGateStep, IsSealed, IsRefused}
 use Rattle.gate_kernels.specs.Gates.{Kind, drafting, preparing, at_kind, IsMade, IsApplied, IsTooLarge, gate_at}
 use Rattle.gate_kernels.proofs.Matrices.{y_entry, back_nonzero}
 
@@ -51,32 +51,6 @@ made_next drafting m n s t place old mid new h step =
 made_next preparing m n s t place old mid new h step =
     let k = subst (λ (r : RegisterState). IsGateStep m place s r new) h.after step in
     record { result = (next_value new.next).list; after = k.after; rows = k.rows ∙ h.rows; list = gate_lists m n place old.value.list h.result (next_value new.next).list h.list k.list; weight = k.weight ∙ ap (scaled s) h.weight ∙ twice_scaled s t (total_weight old.value.list) }
-
--- ---- what the next step needs
-abbrev started : Kind → RegisterState → RegisterState
-started kind o = record { limit = o.limit; value = o.value; next = at_kind kind o.value }
-
-pub start_qubits : (kind : Kind) (old mid : RegisterState) (place : ℕ) → mid ≡ started kind old → place < length old.value.qubits → place < length (next_value mid.next).qubits
-start_qubits drafting old mid place e l = subst (λ (t : RegisterState). place < length (next_value t.next).qubits) (sym e) l
-start_qubits preparing old mid place e l = subst (λ (t : RegisterState). place < length (next_value t.next).qubits) (sym e) l
-
-pub start_draft : (old mid : RegisterState) → mid ≡ started drafting old → IsDraft mid.next
-start_draft old mid e = subst (λ (t : RegisterState). IsDraft t.next) (sym e) tt
-
-pub start_present : (kind : Kind) (old mid : RegisterState) → mid ≡ started kind old → IsPresent mid.next
-start_present drafting old mid e = subst (λ (t : RegisterState). IsPresent t.next) (sym e) tt
-start_present preparing old mid e = subst (λ (t : RegisterState). IsPresent t.next) (sym e) tt
-
-pub made_qubits : (kind : Kind) (m : Matrix) (s place j : ℕ) (old mid : RegisterState) → IsMade kind m s place old mid → j < length old.value.qubits → j < length (next_value mid.next).qubits
-made_qubits drafting m s place j old mid h l = subst (λ (t : RegisterState). j < length (next_value t.next).qubits) (sym h.after) l
-made_qubits preparing m s place j old mid h l = subst (λ (t : RegisterState). j < length (next_value t.next).qubits) (sym h.after) l
-
-pub made_draft : (m : Matrix) (s place : ℕ) (old mid : RegisterState) → IsMade drafting m s place old mid → IsDraft mid.next
-made_draft m s place old mid h = subst (λ (t : RegisterState). IsDraft t.next) (sym h.after) tt
-
-pub made_present : (kind : Kind) (m : Matrix) (s place : ℕ) (old mid : RegisterState) → IsMade kind m s place old mid → IsPresent mid.next
-made_present drafting m s place old mid h = subst (λ (t : RegisterState). IsPresent t.next) (sym h.after) tt
-made_present preparing m s place old mid h = subst (λ (t : RegisterState). IsPresent t.next) (sym h.after) tt
 
 -- ---- what it stands for
 same_along : (v u : Vector) → ((x : ℕ) → v x ≡ u x) → IsSameState v u

@@ -37,10 +37,6 @@ module _ (shape : Shape) (s : Network) (u : Vector) (c : Call) (some : ¬ ((x : 
   t : Network
   t = over s u
 
-  own_same : own_number t c ≡ own_number s c
-  unfolding t over own_number operand held_number
-  own_same = refl
-
   outcome_same : (word : ℕ) → outcome_of s c word ≡ outcome_of t c word
   unfolding t over outcome_of own_number operand held_number
   outcome_same word = same_draw s.live s.vector u (own_number s c) word some same

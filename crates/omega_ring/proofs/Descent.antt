@@ -8,12 +8,6 @@ far_above a b p h =
     let t : 0 < b * b = mul-le-mul p p in
     omega arith
 
-pub near_below : (a b : ℕ) → 0 < b → a ≤ b → a * a < 2 * (b * b)
-near_below a b p h =
-    let s : a * a ≤ b * b = mul-le-mul h h in
-    let t : 0 < b * b = mul-le-mul p p in
-    omega arith
-
 up_step : (p q : ℕ) → p * p < 2 * (q * q) → 2 * ((p + q) * (p + q)) < (p + 2 * q) * (p + 2 * q)
 up_step p q h = omega arith
 

@@ -1,10 +1,9 @@
 -- A rounded quotient is exact where the divisor divides.
-use Rattle.std.proofs.Common.{◌≡◌, ◌≢◌, ℤ, pos, ◌+ℤ◌, ◌-ℤ◌, ◌*ℤ◌, ◌≤ℤ◌, ◌<ℤ◌, refl, sym, ap, subst, ◌∙◌, arith, [], ◌∷◌}
+use Rattle.std.proofs.Common.{◌≡◌, ◌≢◌, ℤ, pos, ◌*ℤ◌, ◌≤ℤ◌, ◌<ℤ◌, refl, sym, ap, subst, ◌∙◌, arith, [], ◌∷◌}
 use Rattle.state_model.specs.Coefficient.{Coefficient, zero_coefficient, ◌⊖◌, ◌⊗◌}
 use Rattle.state_model.specs.Divisors.{Divides, norm}
 use Rattle.state_model.specs.Quotients.{IsRemainder}
 use Rattle.omega_ring.specs.Steps.{IsNearest, numerator}
-use Rattle.state_model.proofs.Division.{companion}
 use Rattle.state_model.proofs.Euclid.{zero_of_norm}
 use Rattle.state_model.proofs.Expressions.{coordinates, equal_quads, mul_quad, quad, sub_quad}
 use Rattle.state_model.proofs.Inequalities.{order, below_of_product}

@@ -2,13 +2,9 @@
 use Rattle.std.proofs.Common.{◌≡◌, ℕ, suc, zero, ◌+◌, ◌/◌, ◌%◌, ◌<◌, ℤ, pos, negsuc, ◌+ℤ◌, neg_ℤ, IsTrue, ◌↔◌, nat_eq, of_z, true, refl, sym, ap, ◌∙◌, arith}
 use Rattle.std.proofs.lemmas.Bool.{eqb-true}
 use mir.Syntax.{w128}
-use lib.Signed.{quot_z, rem_z}
+use lib.Signed.{rem_z}
 use Rattle.state_model.specs.Quotients.{IsEven}
 use Rattle.state_model.proofs.Inequalities.{order}
-
-pub half_of_double : (k : ℤ) → quot_z (k +ℤ k) (pos 2) ≡ k
-half_of_double (pos n) = ap pos (omega arith)
-half_of_double (negsuc n) = let e : suc (suc (n + n)) / 2 ≡ suc n = omega arith in ap (λ (m : ℕ). neg_ℤ (pos m)) e
 
 zero_neg : (r : ℕ) → neg_ℤ (pos r) ≡ pos 0 → r ≡ 0
 zero_neg zero e = refl

@@ -1,6 +1,5 @@
 -- How large the numbers in one of Euclid's steps are.
-use Rattle.std.proofs.Common.{◌≡◌, ℕ, suc, zero, ◌+◌, ◌*◌, ◌≤◌, ◌<◌, ◌^◌, ℤ, pos, ◌+ℤ◌, ◌-ℤ◌, ◌*ℤ◌, neg_ℤ, ◌≤ℤ◌, ◌<ℤ◌, unsigned_abs, refl, sym, ap, ◌∙◌, arith, ⊎_elim, [], ◌∷◌}
-use Rattle.std.proofs.lemmas.Bool.{cases_lt}
+use Rattle.std.proofs.Common.{◌≡◌, ℕ, suc, zero, ◌+◌, ◌*◌, ◌≤◌, ◌<◌, ◌^◌, ℤ, pos, ◌+ℤ◌, ◌-ℤ◌, ◌*ℤ◌, neg_ℤ, ◌≤ℤ◌, ◌<ℤ◌, unsigned_abs, refl, sym, ap, ◌∙◌, arith, [], ◌∷◌}
 use Rattle.std.proofs.lemmas.Int.{ints, unsigned_abs-mul, by_lt_z}
 use native.Mathlib.Nat.{mul-le-mul}
 use Rattle.state_model.specs.Coefficient.{Coefficient, Weight, conjugate, weight, ◌⊗◌}
@@ -183,22 +182,6 @@ product_by_norm z u h b k =
     sixteen : (x n : ℕ) → x ≤ 4 * (4 * n) → x ≤ 16 * n
     sixteen x n h = omega arith
 
--- ---- the quotient's coordinates
-pub quotient_small : (t q n : ℤ) → pos 0 <ℤ n → IsHalf n (t -ℤ q *ℤ n) → unsigned_abs t ≤ 2 ^ 35 * unsigned_abs n → unsigned_abs q < 2 ^ 36
-quotient_small t q n h k l = small (unsigned_abs q) (unsigned_abs n) (size t (q *ℤ n) n (unsigned_abs q) h k l (unsigned_abs-mul q n)) (positive n h)
-  where
-    positive : (n : ℤ) → pos 0 <ℤ n → 0 < unsigned_abs n
-    positive n h = omega (arith, ints)
-
-    size : (t p n : ℤ) (q : ℕ) → pos 0 <ℤ n → IsHalf n (t -ℤ p) → unsigned_abs t ≤ 2 ^ 35 * unsigned_abs n → unsigned_abs p ≡ q * unsigned_abs n → q * unsigned_abs n ≤ 2 ^ 35 * unsigned_abs n + unsigned_abs n
-    size t p n q h k l e = let m : unsigned_abs p ≤ 2 ^ 35 * unsigned_abs n + unsigned_abs n = omega (arith, ints, k.low, k.high) in omega arith
-
-    small : (q n : ℕ) → q * n ≤ 2 ^ 35 * n + n → 0 < n → q < 2 ^ 36
-    small q n h p = ⊎_elim (λ l. l) (λ l. let m : 2 ^ 36 * n ≤ q * n = grow (2 ^ 36) q n l in absurd (omega arith)) (cases_lt q (2 ^ 36))
-      where
-        grow : (a b n : ℕ) → a ≤ b → a * n ≤ b * n
-        grow a b n h = grind arith
-
 -- ---- the remainder's weight
 companion_weight : (u : Coefficient) → weight (companion u) ≡ record { x = norm u *ℤ (weight u).x; y = neg_ℤ (norm u *ℤ (weight u).y) }
 companion_weight u =
@@ -263,16 +246,3 @@ remainder_weight u r e h b f ha hb hc hd =
         let j : e *ℤ x ≡ x *ℤ e = equal (e ∷ x ∷ []) (times (var 0) (var 1)) (times (var 1) (var 0)) refl in
         absurd (omega (arith, order)))
         (λ q. q)
-
--- the quotient that is rounded toward zero
-pub parts_small : (t q r n : ℤ) → pos 0 <ℤ n → q *ℤ n +ℤ r ≡ t → unsigned_abs r < unsigned_abs n → unsigned_abs t ≤ 2 ^ 35 * unsigned_abs n → unsigned_abs q ≤ 2 ^ 35
-parts_small t q r n h e k l = small (unsigned_abs q) (unsigned_abs n) (size t (q *ℤ n) r n (unsigned_abs q) e k l (unsigned_abs-mul q n))
-  where
-    size : (t p r n : ℤ) (q : ℕ) → p +ℤ r ≡ t → unsigned_abs r < unsigned_abs n → unsigned_abs t ≤ 2 ^ 35 * unsigned_abs n → unsigned_abs p ≡ q * unsigned_abs n → q * unsigned_abs n < 2 ^ 35 * unsigned_abs n + unsigned_abs n
-    size t p r n q e k l f = let m : unsigned_abs p < 2 ^ 35 * unsigned_abs n + unsigned_abs n = omega (arith, ints) in omega arith
-
-    small : (q n : ℕ) → q * n < 2 ^ 35 * n + n → q ≤ 2 ^ 35
-    small q n h = ⊎_elim (λ l. let m : (2 ^ 35 + 1) * n ≤ q * n = grow (2 ^ 35 + 1) q n (omega arith) in absurd (omega arith)) (λ l. l) (cases_lt (2 ^ 35) q)
-      where
-        grow : (a b n : ℕ) → a ≤ b → a * n ≤ b * n
-        grow a b n h = grind arith

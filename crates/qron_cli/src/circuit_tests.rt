@@ -132,6 +132,31 @@ fn entangled_qubits_agree(rt: HostRuntime) -> Result<(), Fail> {
 }
 
 #[test]
+fn seventh_qubit_is_cleared_by_the_sixth(rt: HostRuntime) -> Result<(), Fail> {
+    // NEW 7 times, H on 0, and CNOT of each with the next, so that all agree; CNOT of 5 with 6; 6 and 5 are measured
+    let alloc = rt.alloc();
+    let input = spelled(
+        alloc,
+        &[
+            ("0201000000000052", 1),
+            ("00000100", 7),
+            ("00001100000014000001000114000002000214000003", 1),
+            ("000314000004000414000005000514000006", 1),
+            ("0005140000060006020000050200", 1),
+        ],
+    )?;
+    let mut expected = Vec::new(alloc);
+    for id in 0..7u8 {
+        expected.extend_from_slice(&[2, 0x0a, 0, 0, 0, 0, 0, 2, 0, id])?;
+    }
+    expected.extend_from_slice(&[2, 7, 0, 0, 0, 0, 0, 1, 0, 2, 7, 0, 0, 0, 0, 0, 1, 1])?;
+    let answer = run_with(alloc, input, faultless([0, 0]), &["pipe"], 7)?;
+    assert_eq!(rt; answer.status, 0);
+    assert_eq!(rt; answer.output.as_str(), encode(alloc, &expected)?.as_str());
+    Ok(())
+}
+
+#[test]
 fn refused_gate_changes_nothing(rt: HostRuntime) -> Result<(), Fail> {
     let alloc = rt.alloc();
     // H, and then T and H: after 116 times the size is 2^59, and the next H is refused

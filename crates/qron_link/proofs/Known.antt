@@ -1,8 +1,8 @@
 -- One read after another, one write after another, and faults that last.
-use Rattle.std.proofs.Common.{◌≡◌, ℕ, ◌≤◌, List, [], ◌++◌, Option, None, Some, refl, sym, ap, ◌∙◌, append_assoc, arith}
+use Rattle.std.proofs.Common.{◌≡◌, ℕ, List, [], ◌++◌, Option, None, Some, refl, sym, ap, ◌∙◌, append_assoc}
 use Rattle.std.proofs.lemmas.List.{append-nil}
 use Rattle.std.specs.Io.KnownBytes.{prepend_known, append_known}
-use Rattle.qron_link.specs.Outside.{Rose, WasRead, WasWritten}
+use Rattle.qron_link.specs.Outside.{WasRead, WasWritten}
 
 prepend_twice : (x y : List ℕ) (c : Option (List ℕ)) → prepend_known x (prepend_known y c) ≡ prepend_known (x ++ y) c
 prepend_twice x y None = refl
@@ -25,7 +25,3 @@ read_none a (Some x) e = sym e
 pub written_none : (a b : Option (List ℕ)) → b ≡ a → WasWritten a [] b
 written_none None b e = e
 written_none (Some x) b e = e ∙ ap Some (sym (append-nil x))
-
--- a count that rose from a later moment on rose from an earlier one on
-pub rose_since : (a b c : ℕ) → a ≤ b → Rose b c → Rose a c
-rose_since a b c le rose = omega arith

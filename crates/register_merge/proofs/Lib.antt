@@ -9,4 +9,3 @@ pub mod WrittenRows
 pub mod MergedDrafts
 pub mod JoinedNumbers
 pub mod Apart
-pub mod MergedParts

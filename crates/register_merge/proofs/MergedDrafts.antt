@@ -2,11 +2,13 @@
 use Rattle.std.proofs.Common.{◌≡◌, ℕ, ◌*◌, ◌<◌, ◌≤◌, ◌^◌, ℤ, pos, ◌≤ℤ◌, ◌<ℤ◌, nat_abs, List, ◌++◌, length, refl, sym, ap, subst, ◌∙◌, arith}
 use mathlib.Core.Path.{fun_ext}
 use Rattle.std.proofs.lemmas.Int.{ints}
+use Rattle.state_model.specs.Coefficient.{Weight}
+use Rattle.state_model.specs.Divisors.{weight_product}
 use Rattle.state_model.specs.CoefficientList.{IsNonzero, HasDeltaDivisors, total_weight}
 use Rattle.state_model.specs.StateVector.{Vector, IsSameState, IsSize}
 use Rattle.state_model.specs.Amplitudes.{vector_of, HasRows}
 use Rattle.state_model.proofs.RegisterLists.{reduced_nonzero}
-use Rattle.amplitude_register.specs.States.{RegisterState, draft, prepared, next_value, zeros, IsDraft, IsKept, IsSealed, IsRefused}
+use Rattle.amplitude_register.specs.States.{RegisterState, draft, prepared, next_value, zeros, IsKept, IsSealed, IsRefused}
 use Rattle.amplitude_register.proofs.SealedDrafts.{reduced_delta}
 use Rattle.register_merge.specs.Merging.{merged, products, CanMerge, IsMerged, IsWritten}
 use Rattle.register_merge.proofs.ProductLists.{total_products, reduced_products}
@@ -30,9 +32,6 @@ drafted one two mid new e h = written_whole two.value.list mid new h
     ∙ ap (λ (t : RegisterState). record t { next = draft record { qubits = (next_value t.next).qubits; list = products t.value.list two.value.list } }) e
 
 -- ---- what the draft is
-pub drafted_open : (one two new : RegisterState) → new ≡ product_draft one two → IsDraft new.next
-drafted_open one two new e = subst (λ (t : RegisterState). IsDraft t.next) (sym e) tt
-
 pub drafted_nonzero : (one two new : RegisterState) → new ≡ product_draft one two → IsKept one.value → IsKept two.value → IsNonzero (next_value new.next).list
 drafted_nonzero one two new e kept_one kept_two = subst (λ (t : RegisterState). IsNonzero (next_value t.next).list) (sym e)
     (reduced_nonzero (products one.value.list two.value.list) (reduced_products one.value.list two.value.list kept_one.normal.reduced kept_two.normal.reduced))
@@ -47,6 +46,11 @@ drafted_small one two new e kept_one kept_two = subst (λ (t : RegisterState). (
     real : IsReal (total_weight (products one.value.list two.value.list))
     real = product_real (total_weight one.value.list) (total_weight two.value.list) (total_weight (products one.value.list two.value.list))
         (kept_weight one.value (total_weight one.value.list) kept_one refl) (kept_weight two.value (total_weight two.value.list) kept_two refl) (total_products one.value.list two.value.list)
+
+pub drafted_weight : (one two new : RegisterState) (v w u : Weight) → new ≡ product_draft one two → v ≡ total_weight one.value.list → w ≡ total_weight two.value.list → u ≡ weight_product v w → u ≡ total_weight (next_value new.next).list
+drafted_weight one two new v w u e is_one is_two is =
+    is ∙ ap (λ (t : Weight). weight_product t w) is_one ∙ ap (weight_product (total_weight one.value.list)) is_two ∙ sym (total_products one.value.list two.value.list)
+    ∙ sym (ap (λ (t : RegisterState). total_weight (next_value t.next).list) e)
 
 -- ---- what is sealed
 pub sealed_merged : (one two mid new : RegisterState) → mid ≡ product_draft one two → HasRows one.value → IsSealed mid new → IsMerged one two new

@@ -26,9 +26,6 @@ written_none us mid qs e rows = record {
   done = λ i h. absurd (omega arith);
 }
 
-pub written_open : (n : ℕ) (us : List Coefficient) (old mid : RegisterState) → IsWritten n us old mid → IsDraft mid.next
-written_open n us old mid h = subst (λ (t : RegisterState). IsDraft t.next) (sym h.after) tt
-
 pub written_value : (n : ℕ) (us : List Coefficient) (old mid : RegisterState) → IsWritten n us old mid → mid.value ≡ old.value
 written_value n us old mid h = ap (λ (t : RegisterState). t.value) h.after
 
@@ -57,24 +54,6 @@ written_more n us old mid new z h l e f = record { after = after; rows = ap leng
 
     done : (i : ℕ) → i < n + 1 → at (next_value new.next).list i ≡ at (products old.value.list us) i
     done i m = ap (λ (t : List Coefficient). at t i) list_is ∙ in_list (next_value mid.next).list l h.done i m
-
--- what is written so far, seen from the register as it is now
-pub written_here : (n : ℕ) (us : List Coefficient) (old mid : RegisterState) → IsWritten n us old mid → IsWritten n us mid mid
-written_here n us old mid h = record {
-  after = ap (λ (t : Next). record mid { next = t }) (draft_again mid.next (written_open n us old mid h));
-  rows = h.rows ∙ ap (λ (t : Amplitudes). length t.list * length us) (sym (written_value n us old mid h));
-  done = λ i l. h.done i l ∙ ap (λ (t : Amplitudes). at (products t.list us) i) (sym (written_value n us old mid h));
-}
-
--- what is written after more
-pub written_on : (n m : ℕ) (us : List Coefficient) (old mid new : RegisterState) → IsWritten n us old mid → IsWritten m us mid new → IsWritten m us old new
-written_on n m us old mid new h k = record {
-  after =
-      k.after ∙ ap (λ (t : RegisterState). record t { next = draft record { qubits = (next_value mid.next).qubits; list = (next_value new.next).list } }) h.after
-      ∙ ap (λ (t : List ℕ). record old { next = draft record { qubits = t; list = (next_value new.next).list } }) (written_qubits n us old mid h);
-  rows = k.rows ∙ ap (λ (t : Amplitudes). length t.list * length us) (written_value n us old mid h);
-  done = λ i l. k.done i l ∙ ap (λ (t : Amplitudes). at (products t.list us) i) (written_value n us old mid h);
-}
 
 pub written_same : (n m : ℕ) (us : List Coefficient) (old mid : RegisterState) → n ≡ m → IsWritten n us old mid → IsWritten m us old mid
 written_same n m us old mid e h = subst (λ (k : ℕ). IsWritten k us old mid) e h

@@ -4,6 +4,7 @@ ghost use Rattle.amplitude_register.specs.States.{draft, zeros};
 ghost use Rattle.register_merge.specs.Merging.{AreApart, CanMerge, IsMerged};
 
 use crate::rows::write_rows;
+use crate::weights::times;
 use amplitude_register::{Reduce, Register};
 
 /// Prepares the product of two registers that share no qubit: the first's qubits and then the second's, in the
@@ -16,8 +17,10 @@ pub fn prepare_merge(one: &mut Register, two: &Register)
 {
     one.facts();
     two.facts();
+    let weight = times(one.weight(), two.weight());
     begin_product(one, two);
     write_rows(one, two);
+    one.weigh(weight);
     let Ok(()) = one.seal(Reduce::Delta) else {
         unreachable!()
     };

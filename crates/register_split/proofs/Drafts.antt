@@ -1,22 +1,20 @@
 -- A draft of the rows with a bit, row by row, and what is sealed of it.
 use Prim.Native.Nat.{zero, suc}
-use Rattle.std.proofs.Common.{◌≡◌, ◌≢◌, ℕ, ◌+◌, ◌*◌, ◌/◌, ◌<◌, ◌≤◌, ◌^◌, Bool, ℤ, pos, ◌≤ℤ◌, ◌<ℤ◌, unsigned_abs, List, [], ◌∷◌, length, replicate, slice_set, get_or, Result, Ok, Err, MatchResult, refl, sym, ap, subst, ◌∙◌, arith, ⊎_elim, get_or-set_other, get_or-set_same}
+use Rattle.std.proofs.Common.{◌≡◌, ◌≢◌, ℕ, ◌+◌, ◌*◌, ◌/◌, ◌<◌, ◌≤◌, ◌^◌, Bool, ℤ, pos, ◌≤ℤ◌, ◌<ℤ◌, List, length, slice_set, refl, sym, ap, subst, ◌∙◌, arith, ⊎_elim, get_or-set_other, get_or-set_same}
 use mathlib.Core.Path.{fun_ext}
 use Rattle.std.proofs.Math.Nat.{pow-succ'}
 use Rattle.std.proofs.lemmas.Bool.{cases_lt}
 use Rattle.std.proofs.lemmas.List.{length-replicate, length-set}
-use Rattle.state_model.specs.Coefficient.{Coefficient, zero_coefficient, weight}
-use Rattle.state_model.specs.CoefficientList.{at, IsNonzero, IsLeastSize, total_weight}
+use Rattle.state_model.specs.Coefficient.{Coefficient, zero_coefficient}
+use Rattle.state_model.specs.CoefficientList.{at, IsNonzero, total_weight}
 use Rattle.state_model.specs.Row.{inserted, without}
-use Rattle.state_model.specs.StateVector.{Vector, IsSameState}
-use Rattle.state_model.specs.Measurement.{keep}
-use Rattle.state_model.specs.Registers.{register_vector}
-use Rattle.state_model.specs.Amplitudes.{Amplitudes, vector_of, qubit_at, HasRows, IsKeptList}
+use Rattle.state_model.specs.StateVector.{IsSameState}
+use Rattle.state_model.specs.Amplitudes.{Amplitudes, vector_of, qubit_at, HasRows}
 use Rattle.state_model.proofs.Inequalities.{order}
 use Rattle.state_model.proofs.KeptLists.{kept_list, kept_lighter, without_length}
 use Rattle.state_model.proofs.RegisterGates.{at_place}
 use Rattle.state_model.proofs.RegisterLists.{some_row_entry}
-use Rattle.amplitude_register.specs.States.{RegisterState, Next, draft, prepared, next_value, zeros, with_row, IsDraft, IsKept, IsSealed, IsRefused}
+use Rattle.amplitude_register.specs.States.{RegisterState, Next, draft, prepared, next_value, zeros, with_row, IsKept, IsSealed, IsRefused}
 use Rattle.omega_ring.specs.Range.{CoordinatesBelow}
 use Rattle.omega_ring.proofs.Rounding.{within_up}
 use Rattle.amplitude_register.proofs.Sums.{within_sum}
@@ -43,9 +41,6 @@ copy_none place bit old rows l e = record {
   rows = half_rows place old rows l ∙ ap (λ n. 2 * n) (sym (ap (λ (t : Next). length (next_value t).list) e ∙ length-replicate (2 ^ length (rest_of place old)) zero_coefficient));
   done = λ i h. absurd (omega arith);
 }
-
-pub copy_draft : (place : ℕ) (bit : Bool) (row : ℕ) (old mid : RegisterState) → IsCopying place bit row old mid → IsDraft mid.next
-copy_draft place bit row old mid h = subst (λ (t : RegisterState). IsDraft t.next) (sym h.after) tt
 
 pub copy_value : (place : ℕ) (bit : Bool) (row : ℕ) (old mid : RegisterState) → IsCopying place bit row old mid → mid.value ≡ old.value
 copy_value place bit row old mid h = ap (λ (t : RegisterState). t.value) h.after
@@ -114,9 +109,6 @@ drafted_from place bit old begun mid x e h =
     record { after = k.after; list = k.list }
 
 -- ---- what a draft of the rows with a bit is
-drafted_list : (place : ℕ) (bit : Bool) (old mid : RegisterState) → IsDrafted place bit old mid → IsKeptList place bit old.value.list (next_value mid.next).list
-drafted_list place bit old mid h = h.list
-
 pub drafted_nonzero : (place : ℕ) (bit : Bool) (old mid : RegisterState) → HasRows old.value → place < length old.value.qubits → HasRowWith place bit old.value → IsDrafted place bit old mid → IsNonzero (next_value mid.next).list
 drafted_nonzero place bit old mid rows l some h = some_row_entry (rest_of place old) (next_value mid.next).list (λ none. some (λ x. sym (kept_list old.value place bit (next_value mid.next).list rows l h.list x) ∙ none x))
 
@@ -125,9 +117,6 @@ drafted_small place bit old mid rows kept l h = below _ _ (kept_lighter old.valu
   where
     below : (x y : ℤ) → x ≤ℤ y → y <ℤ pos (2 ^ 60) → x <ℤ pos (2 ^ 60)
     below x y h k = omega (arith, order)
-
-pub drafted_open : (place : ℕ) (bit : Bool) (old mid : RegisterState) → IsDrafted place bit old mid → IsDraft mid.next
-drafted_open place bit old mid h = subst (λ (t : RegisterState). IsDraft t.next) (sym h.after) tt
 
 -- ---- what is sealed
 pub sealed_taken : (place : ℕ) (bit : Bool) (old mid new : RegisterState) → HasRows old.value → place < length old.value.qubits → IsDrafted place bit old mid → IsSealed mid new → IsTakenOut place bit old new

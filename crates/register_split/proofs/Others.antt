@@ -39,9 +39,6 @@ without_at (p ∷ qs) (suc j) q apart at (suc i) =
     ∙ without_at qs j q (apart.1) at i
 
 -- ---- the loop
-pub none_copied : (qs rest : List ℕ) (j i : ℕ) → i < 0 → get_or rest i 0 ≡ get_or qs (skip j i) 0
-none_copied qs rest j i h = absurd (omega arith)
-
 pub more_copied : (qs rest : List ℕ) (j k x : ℕ) → k < length rest → ((i : ℕ) → i < k → get_or rest i 0 ≡ get_or qs (skip j i) 0) → x ≡ get_or qs (skip j k) 0
     → (i : ℕ) → i < k + 1 → get_or (slice_set rest k x) i 0 ≡ get_or qs (skip j i) 0
 more_copied qs rest j k x l h e i m = ⊎_elim

@@ -1,6 +1,6 @@
 -- Sums of weights over the first rows of a register stay small.
 use Prim.Native.Nat.{zero, suc}
-use Rattle.std.proofs.Common.{◌≡◌, ℕ, ◌+◌, ◌<◌, ◌≤◌, ◌^◌, Bool, true, false, cond, ℤ, pos, ◌+ℤ◌, neg_ℤ, ◌≤ℤ◌, ◌<ℤ◌, unsigned_abs, List, length, refl, sym, ap, subst, ◌∙◌, arith, add-one, ⊎_elim}
+use Rattle.std.proofs.Common.{◌≡◌, ℕ, ◌+◌, ◌<◌, ◌≤◌, ◌^◌, Bool, true, false, cond, ℤ, pos, ◌+ℤ◌, neg_ℤ, ◌≤ℤ◌, ◌<ℤ◌, unsigned_abs, List, length, refl, sym, ap, subst, ◌∙◌, arith, ⊎_elim}
 use Rattle.std.proofs.lemmas.Bool.{cases_lt}
 use Rattle.std.proofs.lemmas.Int.{ints}
 use Rattle.state_model.specs.Coefficient.{Coefficient, zero_coefficient, Weight, weight, no_weight, weight_sum}
@@ -92,8 +92,8 @@ below x y h k = omega (arith, order)
 whole_x : (list : List Coefficient) (n : ℕ) → n ≤ length list → (total_weight list).x <ℤ pos (2 ^ 60) → (sum_of (at list) n).x <ℤ pos (2 ^ 60)
 whole_x list n l h = below _ _ (sum_grows (at list) n (length list) l) (subst (λ (w : Weight). w.x <ℤ pos (2 ^ 60)) (sym (weight_to-total list)) h)
 
-pub whole_small : (list : List Coefficient) (n : ℕ) (w : Weight) → n ≤ length list → (total_weight list).x <ℤ pos (2 ^ 60) → w ≡ sum_of (at list) n → IsSmallWeight w
-whole_small list n w l h e = subst IsSmallWeight (sym e) (small_real (sum_of (at list) n) (sum_real (at list) n) (whole_x list n l h))
+pub whole_small : (list : List Coefficient) (w : Weight) → (total_weight list).x <ℤ pos (2 ^ 60) → w ≡ total_weight list → IsSmallWeight w
+whole_small list w h e = subst IsSmallWeight (sym e) (small_real (total_weight list) (subst IsReal (weight_to-total list) (sum_real (at list) (length list))) h)
 
 pub one_small : (j : ℕ) (list : List Coefficient) (n : ℕ) (w : Weight) → n ≤ length list → (total_weight list).x <ℤ pos (2 ^ 60) → w ≡ sum_of (counted j list) n → IsSmallWeight w
 one_small j list n w l h e = subst IsSmallWeight (sym e) (small_real (sum_of (counted j list) n) (sum_real (counted j list) n) (below _ _ (counted_below j list n) (whole_x list n l h)))
@@ -105,9 +105,6 @@ pub weight_small : (z : Coefficient) (w : Weight) → (weight z).x <ℤ pos (2 ^
 weight_small z w h e = subst IsSmallWeight (sym e) (small_real (weight z) (real_weight z) h)
 
 -- ---- one more row
-pub whole_more : (list : List Coefficient) (n : ℕ) (z : Coefficient) (v w : Weight) → v ≡ sum_of (at list) n → z ≡ at list n → w ≡ weight_sum v (weight z) → w ≡ sum_of (at list) (n + 1)
-whole_more list n z v w h e f = f ∙ ap (λ (t : Weight). weight_sum t (weight z)) h ∙ ap (λ (t : Coefficient). weight_sum (sum_of (at list) n) (weight t)) e ∙ sym (sum_more (at list) n)
-
 pub one_counts : (j : ℕ) (list : List Coefficient) (n : ℕ) (z : Coefficient) (v w : Weight) → is_set j n ≡ true → v ≡ sum_of (counted j list) n → z ≡ at list n → w ≡ weight_sum v (weight z) → w ≡ sum_of (counted j list) (n + 1)
 one_counts j list n z v w b h e f =
     f ∙ ap (λ (t : Weight). weight_sum t (weight z)) h ∙ ap (λ (t : Coefficient). weight_sum (sum_of (counted j list) n) (weight t)) (e ∙ sym (ap (λ c. cond c (at list n) zero_coefficient) b)) ∙ sym (sum_more (counted j list) n)

@@ -30,16 +30,28 @@ pub fn weights(reg: &Register, place: u8) -> Split
     ensures whole_y { unsigned_abs result.whole.y < 2 ^ 60 }
 {
     reg.facts();
+    let one = weight_of_ones(reg, place);
+    Split {
+        one,
+        whole: reg.weight(),
+    }
+}
+
+/// The weight of the register's rows in which the bit at the place is 1.
+fn weight_of_ones(reg: &Register, place: u8) -> Weight
+    requires { place < length reg.now.value.qubits }
+    ensures weight { weight_value result ≡ one_weight reg.now.value.qubits (vector_of reg.now.value) (qubit_at reg.now.value place) }
+    ensures x { unsigned_abs result.x < 2 ^ 60 }
+    ensures y { unsigned_abs result.y < 2 ^ 60 }
+{
+    reg.facts();
     let mut one = NONE;
-    let mut whole = NONE;
     for row in 0..row_count(reg) {
-        let z = reg.coefficient(row);
-        whole = added(whole, z);
         if has_bit(row, place) {
-            one = added(one, z);
+            one = added(one, reg.coefficient(row));
         }
     }
-    Split { one, whole }
+    one
 }
 
 /// The sum with a coefficient's weight.

@@ -2,7 +2,7 @@
 use Prim.Native.Nat.{zero, suc}
 use Rattle.std.proofs.Common.{◌≡◌, ◌≢◌, ℕ, ℤ, pos, negsuc, ◌+ℤ◌, neg_ℤ, refl, sym, ap, ◌∙◌, arith}
 use borrow.Author.Differences.{ints, same_in, sum_is_lem, neg_is}
-use Rattle.state_model.specs.Coefficient.{Coefficient, coefficient, zero_coefficient, one_coefficient, ◌⊕◌, ◌⊗◌, negated, times_root, root}
+use Rattle.state_model.specs.Coefficient.{Coefficient, zero_coefficient, one_coefficient, ◌⊕◌, ◌⊗◌, negated, times_root, root}
 use Rattle.state_model.specs.Gate.{imaginary, matrix}
 use Rattle.state_model.specs.declared.Gate.{Gate}
 use Rattle.state_model.specs.declared.Gate.TheVariants.{I, X, Y, Z, T, H, K, RotX, RotY, RotZ}
@@ -18,8 +18,7 @@ root_some zero e = one_some e
 root_some (suc k) e = root_some k (of_times (root k) e)
   where
     of_times : (z : Coefficient) → times_root z ≡ zero_coefficient → z ≡ zero_coefficient
-    of_times z e = unfold times_root zero_coefficient coefficient in
-        same_coordinates _ _ (ap (λ t. t.b) e) (ap (λ t. t.c) e) (ap (λ t. t.d) e) (let f : neg_ℤ z.d ≡ pos 0 = ap (λ t. t.a) e in omega (arith, ints))
+    of_times z e = same_coordinates _ _ (ap (λ t. t.b) e) (ap (λ t. t.c) e) (ap (λ t. t.d) e) (let f : neg_ℤ z.d ≡ pos 0 = ap (λ t. t.a) e in omega (arith, ints))
 
 doubled_some : (z : Coefficient) → z ⊕ z ≡ zero_coefficient → z ≡ zero_coefficient
 doubled_some z e = same_coordinates _ _ (half z.a (ap (λ t. t.a) e)) (half z.b (ap (λ t. t.b) e)) (half z.c (ap (λ t. t.c) e)) (half z.d (ap (λ t. t.d) e))

@@ -32,10 +32,6 @@ weight-⊗ y z =
     let f = real_same _ _ _ _ e in
     same_weight _ _ (f.0) (f.1)
 
-times_comm : (p q : Weight) → times p q ≡ times q p
-unfolding times product_x product_y
-times_comm p q = same_weight _ _ (omega (arith, ints)) (omega (arith, ints))
-
 times-sum : (p q r : Weight) → times (weight_sum p q) r ≡ weight_sum (times p r) (times q r)
 unfolding times product_x product_y
 times-sum p q r = same_weight _ _ (simp expand (omega (arith, same_in, sum_is_lem))) (simp expand (omega (arith, same_in, sum_is_lem)))

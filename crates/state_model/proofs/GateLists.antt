@@ -65,9 +65,6 @@ closed a b c d = record { a = number a; b = number b; c = number c; d = number d
 abbrev row_quad : Quad → Quad → Quad
 row_quad m n = add_quad (mul_quad m (quad 0)) (mul_quad n (quad 4))
 
-abbrev zero_quad : Quad
-zero_quad = closed (pos 0) (pos 0) (pos 0) (pos 0)
-
 abbrev one_quad : Quad
 one_quad = closed (pos 1) (pos 0) (pos 0) (pos 0)
 

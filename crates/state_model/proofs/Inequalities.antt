@@ -1,5 +1,5 @@
 -- The order of the whole numbers under products.
-use Rattle.std.proofs.Common.{◌≡◌, ◌≢◌, ℕ, suc, zero, ◌*◌, ◌<◌, ℤ, pos, negsuc, ◌+ℤ◌, ◌-ℤ◌, ◌*ℤ◌, ◌≤ℤ◌, ◌<ℤ◌, nat_abs, refl, arith, [], ◌∷◌}
+use Rattle.std.proofs.Common.{◌≡◌, ℕ, suc, zero, ◌*◌, ◌<◌, ℤ, pos, negsuc, ◌+ℤ◌, ◌-ℤ◌, ◌*ℤ◌, ◌≤ℤ◌, ◌<ℤ◌, nat_abs, refl, arith, [], ◌∷◌}
 use borrow.Author.Differences.{up, down, same_in, same_out, sum_is_lem, neg_is, product_is, lt_out, le_out, below_in, at_most_in, abs_is}
 use Rattle.std.proofs.lemmas.Int.{by_lt_z}
 use native.Mathlib.Nat.{mul-le-mul}
@@ -24,11 +24,6 @@ pub product_positive : (a b : ℤ) → pos 0 <ℤ a → pos 0 <ℤ b → pos 0 <
 product_positive (pos m) (pos n) h k = below_in (pos 0) (pos (m * n)) (omega (arith, nat_product_positive m n (omega (arith, order)) (omega (arith, order))))
 product_positive (pos m) (negsuc n) h k = absurd (omega (arith, order))
 product_positive (negsuc m) b h k = absurd (omega (arith, order))
-
-pub square_positive : (z : ℤ) → z ≢ pos 0 → pos 0 <ℤ (z *ℤ z)
-square_positive (pos zero) h = absurd (h refl)
-square_positive (pos (suc n)) h = product_positive (pos (suc n)) (pos (suc n)) (omega (arith, order)) (omega (arith, order))
-square_positive (negsuc n) h = below_in (pos 0) (pos (suc n * suc n)) (omega (arith, nat_product_positive (suc n) (suc n) (omega arith) (omega arith)))
 
 -- a number that is not negative, times an inequality
 pub product_monotone : (k a b : ℤ) → pos 0 ≤ℤ k → a ≤ℤ b → (k *ℤ a) ≤ℤ (k *ℤ b)

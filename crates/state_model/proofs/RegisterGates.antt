@@ -76,9 +76,6 @@ cnot_list qs i j p q xs ys apart at_p at_q same x = by (is_set p x) refl (within
         let out = ne_of _ _ f in
         vector-outside qs ys x out ∙ sym (vector-outside qs xs x out) ∙ ap (λ b. register_vector qs xs (cond b (turned q x) x)) (sym e)
 
-negated_none : negated zero_coefficient ≡ zero_coefficient
-negated_none = refl
-
 phase_list : (qs : List ℕ) (i j p q : ℕ) (xs ys : List Coefficient) → IsAt qs i p → IsAt qs j q
     → ((r : ℕ) → at ys r ≡ cond (is_set i r) (cond (is_set j r) (negated (at xs r)) (at xs r)) (at xs r)) → (x : ℕ) → register_vector qs ys x ≡ controlled_phase p q (register_vector qs xs) x
 unfolding controlled_phase

@@ -140,9 +140,6 @@ pub vector-row : (qs : List ℕ) (list : List Coefficient) (i : ℕ) → AreDist
 vector-row qs list i apart l = vector-within qs list (network_row qs i) (network_row-over qs i) ∙ ap (at list) (register_row-network qs i apart l)
 
 -- ---- multiples
-scaled_zero : (f v : Coefficient) → f ≢ zero_coefficient → f ⊗ v ≡ zero_coefficient → v ≡ zero_coefficient
-scaled_zero f v some e = ⊗-domain f v some e
-
 pub scaled_same : (qs : List ℕ) (vs us : List Coefficient) → IsScaled vs us → IsSameState (register_vector qs vs) (register_vector qs us)
 scaled_same qs vs us h = record {
   rows = λ x. (λ e. value x ∙ ap (λ t. h.factor ⊗ t) e ∙ ⊗-zero_coefficient h.factor, λ e. ⊗-domain h.factor (register_vector qs vs x) h.nonzero (sym (value x) ∙ e));
@@ -180,25 +177,6 @@ ratios_proportional qs vs us apart lv lu same i j = ⊎_elim (λ p. ⊎_elim (λ
     right q =
         ap (λ t. at vs i ⊗ t) (at_past us j (omega arith)) ∙ ⊗-zero_coefficient (at vs i)
         ∙ sym (ap (λ t. at us i ⊗ t) (at_past vs j (omega arith)) ∙ ⊗-zero_coefficient (at us i))
-
--- lists with equal ratios stand for vectors with equal ratios
-pub proportional_ratios : (qs : List ℕ) (vs us : List Coefficient) → IsProportional vs us → (x y : ℕ) → register_vector qs vs x ⊗ register_vector qs us y ≡ register_vector qs vs y ⊗ register_vector qs us x
-proportional_ratios qs vs us same x y = by (within qs x == x) refl (within qs y == y) refl
-  where
-    none_left : (p : ℕ) → within qs p ≢ p → (z : Coefficient) (list : List Coefficient) → register_vector qs list p ⊗ z ≡ zero_coefficient
-    none_left p out z list = ap (λ t. t ⊗ z) (vector-outside qs list p out) ∙ zero_coefficient-⊗ z
-
-    none_right : (p : ℕ) → within qs p ≢ p → (z : Coefficient) (list : List Coefficient) → z ⊗ register_vector qs list p ≡ zero_coefficient
-    none_right p out z list = ap (λ t. z ⊗ t) (vector-outside qs list p out) ∙ ⊗-zero_coefficient z
-
-    by : (s : Bool) → (within qs x == x) ≡ s → (t : Bool) → (within qs y == y) ≡ t → register_vector qs vs x ⊗ register_vector qs us y ≡ register_vector qs vs y ⊗ register_vector qs us x
-    by true e true f =
-        let in_x = eq_of _ _ e in let in_y = eq_of _ _ f in
-        ap (λ t. t ⊗ register_vector qs us y) (vector-within qs vs x in_x) ∙ ap (λ t. at vs (register_row qs x) ⊗ t) (vector-within qs us y in_y)
-        ∙ same (register_row qs x) (register_row qs y) ∙ ⊗_comm (at us (register_row qs x)) (at vs (register_row qs y))
-        ∙ sym (ap (λ t. t ⊗ register_vector qs us x) (vector-within qs vs y in_y) ∙ ap (λ t. at vs (register_row qs y) ⊗ t) (vector-within qs us x in_x))
-    by false e t f = let out = ne_of _ _ e in none_left x out (register_vector qs us y) vs ∙ sym (none_right x out (register_vector qs vs y) us)
-    by true e false f = let out = ne_of _ _ f in none_right y out (register_vector qs vs x) us ∙ sym (none_left y out (register_vector qs us x) vs)
 
 pub same_proportional : (qs : List ℕ) (vs us : List Coefficient) → AreDistinct qs → length vs ≡ 2 ^ length qs → length us ≡ 2 ^ length qs → IsSameState (register_vector qs vs) (register_vector qs us) → IsProportional vs us
 same_proportional qs vs us apart lv lu h = ratios_proportional qs vs us apart lv lu (λ x y in_x in_y. h.ratios x y)

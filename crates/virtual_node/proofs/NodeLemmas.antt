@@ -1,5 +1,5 @@
 -- What the changes of a node do to its maps of held numbers and of queues.
-use Rattle.std.proofs.Common.{◌≡◌, ℕ, ◌≤◌, ◌==◌, Bool, true, false, not, cond, ◌&&◌, List, [], ◌∷◌, ◌++◌, length, length-append, length-drop, map, Option, None, Some, is_some, find, filter, option_map, position, remove, take, drop, slice_get, refl, sym, ap, subst, ◌∙◌, arith}
+use Rattle.std.proofs.Common.{◌≡◌, ℕ, ◌≤◌, ◌==◌, Bool, true, false, not, cond, ◌&&◌, List, [], ◌∷◌, ◌++◌, length, length-append, length-drop, map, Option, None, Some, is_some, find, filter, option_map, remove, take, drop, refl, sym, ap, subst, ◌∙◌, arith}
 use Prim.Native.Nat.{suc}
 use Rattle.std.proofs.lemmas.List.{map-append, length-take}
 use Rattle.std.proofs.lemmas.List.Sums.{length-filter, count_by-le-length}
@@ -10,8 +10,7 @@ use Rattle.network_model.specs.declared.Line.TheVariants.{Sent, Pair}
 use Rattle.state_model.proofs.Booleans.{clash, both_true, eq_of, eq_true}
 use Rattle.qubit_handles.specs.Handle.{is_named, number_of, without_handle}
 use Rattle.qubit_handles.specs.declared.handles.Handle.{Handle}
-use Rattle.qubit_handles.proofs.Firsts.{removed_first, found_none, found_there, filter-without_first, filter-without_other}
-use Rattle.virtual_node.specs.Node.{Node, AreInformed, is_waiting, held_map, arrived_map, told_of, look_of, with_handle, without_held, with_arrival, without_arrival}
+use Rattle.virtual_node.specs.Node.{Node, AreInformed, is_waiting, held_map, arrived_map, told_of, look_of, with_handle, without_held, with_arrival}
 use Rattle.virtual_node.specs.declared.arrival.Arrival.{Arrival}
 use Rattle.virtual_node.specs.declared.arrival.Look.TheVariants.{Here, Empty}
 
@@ -142,31 +141,6 @@ apart_queues app line other beside apart a here = by (is_waiting other beside a)
         let one : (other == app) ≡ true = eq_true other app (sym (eq_of a.app other (that.0)) ∙ eq_of a.app app (this.0)) in
         let two : line_eq beside line ≡ true = line_eq_of beside line (sym (line_of_eq a.line beside (that.1)) ∙ line_of_eq a.line line (this.1)) in
         absurd (clash (sym (ap (λ b. b && line_eq beside line) one ∙ two) ∙ apart))
-
-module _ (n : Node) (app : ℕ) (line : Line) (place : ℕ) (first : position (is_waiting app line) n.arrivals ≡ Some place) where
-  -- the first arrival that is taken was the head of its queue
-  pub arrived_map-taken : (a : Arrival) → slice_get n.arrivals place ≡ Some a → arrived_map n app line ≡ told_of a ∷ arrived_map (without_arrival n place) app line
-  arrived_map-taken a there = ap (map told_of)
-      (filter-without_first (is_waiting app line) n.arrivals a (found_there (is_waiting app line) n.arrivals place a first there)
-      ∙ ap (λ l. a ∷ filter (is_waiting app line) l) (sym (removed_first (is_waiting app line) n.arrivals place first)))
-
-  -- the other queues stay
-  pub arrived_map-others : (other : ℕ) (beside : Line) → ((other == app) && line_eq beside line) ≡ false → arrived_map (without_arrival n place) other beside ≡ arrived_map n other beside
-  arrived_map-others other beside apart = ap (map told_of)
-      (ap (filter (is_waiting other beside)) (removed_first (is_waiting app line) n.arrivals place first)
-      ∙ filter-without_other (is_waiting app line) (is_waiting other beside) (λ a here. apart_queues app line other beside apart a here) n.arrivals)
-
--- a queue is empty exactly where nothing is found
-pub arrived_map-empty : (n : Node) (app : ℕ) (line : Line) → position (is_waiting app line) n.arrivals ≡ None → arrived_map n app line ≡ []
-arrived_map-empty n app line none = ap (map told_of) (nothing n.arrivals (found_none (is_waiting app line) n.arrivals none))
-  where
-    nothing : (xs : List Arrival) → find (is_waiting app line) xs ≡ None → filter (is_waiting app line) xs ≡ []
-    nothing [] e = refl
-    nothing (x ∷ xs) e = by (is_waiting app line x) e (nothing xs)
-      where
-        by : (t : Bool) → cond t (Some x) (find (is_waiting app line) xs) ≡ None → (find (is_waiting app line) xs ≡ None → filter (is_waiting app line) xs ≡ []) → cond t (x ∷ filter (is_waiting app line) xs) (filter (is_waiting app line) xs) ≡ []
-        by true f again = cc
-        by false f again = again f
 
 -- ---- looks
 -- a look that finds an arrival gives its place

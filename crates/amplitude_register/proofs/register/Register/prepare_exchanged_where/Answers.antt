@@ -1,16 +1,17 @@
-use Rattle.std.proofs.Common.{map, take, refl, sym, ap, ◌∙◌}
+use Rattle.std.proofs.Common.{map, take, refl, sym, ap, subst, ◌∙◌}
 use Rattle.state_model.specs.declared.Two.TheVariants.{Cnot}
 use Rattle.omega_ring.specs.Views.{omega_value}
-use Rattle.amplitude_register.specs.States.{RegisterState, prepared}
-use Rattle.amplitude_register.specs.Held.{amplitudes_of, next_of}
+use Rattle.amplitude_register.specs.States.{RegisterState, prepared, IsTwoGateStep}
+use Rattle.amplitude_register.specs.Held.{IsRegister, amplitudes_of, next_of}
+use Rattle.amplitude_register.specs.declared.block.Block.{Block}
 use Rattle.amplitude_register.specs.declared.block.Stage.TheVariants.{Prepared}
-use Rattle.amplitude_register.proofs.Fields.{state, block_room, has_place, list_of}
-use Rattle.amplitude_register.proofs.FromValues.{value_place, value_low, rows_fit}
+use Rattle.amplitude_register.proofs.Fields.{state, front, block_room, has_place, list_of}
+use Rattle.amplitude_register.proofs.FromValues.{value_place, value_low, headed_fit, headed_room}
 use Rattle.amplitude_register.proofs.PreparedRows.{two_step, two_stage, two_stepped}
 use Rattle.amplitude_register.proofs.register.Register.prepare_exchanged_where.Goals as goal
 
 pub exchange_where_front_into-requires-clause-to : goal.exchange_where_front_into-requires-clause-to
-exchange_where_front_into-requires-clause-to c = let i = c.self.invariant in rows_fit c.self.inside.limit c.self.inside.value c.self.inside.next i.value i.next
+exchange_where_front_into-requires-clause-to c = let i = c.self.invariant in headed_fit c.self.inside.limit c.self.inside.value c.self.inside.next c.take_head.new.self i.value i.next c.take_head.ensures
 
 pub exchange_where_front_into-requires-clause-from : goal.exchange_where_front_into-requires-clause-from
 exchange_where_front_into-requires-clause-from c = let i = c.self.invariant in block_room c.self.inside.limit c.self.inside.value i.value
@@ -27,17 +28,18 @@ exchange_where_front_into-requires-clause-place c = let i = c.self.invariant in 
 pub invariant_of-self : goal.invariant_of-self
 invariant_of-self c =
     let i = c.self.invariant in let n = i.next in let v = i.value in
-    record {
+    subst (λ (b : Block). IsRegister record { limit = c.self.inside.limit; value = c.self.inside.value; next = record { qubits = b.qubits; count = b.count; rows = b.rows; weight = b.weight; entries = c.exchange_where_front_into.new.entries }; stage = Prepared }) (sym c.take_head.ensures) record {
       some = i.some;
       most = i.most;
       value = i.value;
-      next = record { rows = v.rows; count = v.count; room = c.exchange_where_front_into.ensures.room ∙ n.room; numbers = v.numbers; distinct = v.distinct };
+      next = record { rows = v.rows; count = v.count; room = c.exchange_where_front_into.ensures.room ∙ headed_room c.self.inside.value c.self.inside.next c.take_head.new.self c.take_head.ensures ∙ n.room; numbers = v.numbers; distinct = v.distinct };
       weighed = i.weighed;
       kept = i.kept;
-      stage = two_stage Cnot c.args.control c.args.target Prepared c.self.inside.value record { qubits = c.self.inside.value.qubits; count = c.self.inside.value.count; rows = c.self.inside.value.rows; weight = c.self.inside.value.weight; entries = c.exchange_where_front_into.new.entries } c.requires.apart refl refl c.exchange_where_front_into.ensures.list (two_stepped Cnot c.args.control c.args.target c.self.inside.limit c.self.inside.value c.exchange_where_front_into.new.entries.items c.requires.apart v (value_place c.args.self.now c.self.inside.limit c.self.inside.value (next_of c.self.inside.stage (amplitudes_of c.self.inside.next)) c.args.target i.most i.value c.self.view_is c.requires.target) (c.exchange_where_front_into.ensures.room ∙ n.room ∙ sym v.room) c.exchange_where_front_into.ensures.list) (i.weighed, i.kept);
+      stage = two_stage Cnot c.args.control c.args.target Prepared c.self.inside.value record { qubits = c.self.inside.value.qubits; count = c.self.inside.value.count; rows = c.self.inside.value.rows; weight = c.self.inside.value.weight; entries = c.exchange_where_front_into.new.entries } c.requires.apart refl refl c.exchange_where_front_into.ensures.list (two_stepped Cnot c.args.control c.args.target c.self.inside.limit c.self.inside.value c.exchange_where_front_into.new.entries.items c.requires.apart v (value_place c.args.self.now c.self.inside.limit c.self.inside.value (next_of c.self.inside.stage (amplitudes_of c.self.inside.next)) c.args.target i.most i.value c.self.view_is c.requires.target) (c.exchange_where_front_into.ensures.room ∙ headed_room c.self.inside.value c.self.inside.next c.take_head.new.self c.take_head.ensures ∙ n.room ∙ sym v.room) c.exchange_where_front_into.ensures.list) (i.weighed, i.kept);
     }
 
 pub returns : goal.returns
 returns c =
     let i = c.self.invariant in let n = i.next in let v = i.value in
-    two_step Cnot c.args.control c.args.target record c.args.self.now { next = prepared c.args.self.now.value } c.self.inside.limit (amplitudes_of c.self.inside.value) Prepared (take c.self.inside.value.count c.self.inside.value.qubits) (list_of c.self.inside.value) (map omega_value (take c.self.inside.value.rows c.exchange_where_front_into.new.entries.items)) (ap (λ (t : RegisterState). state t.limit t.value (prepared t.value)) c.self.view_is) tt c.exchange_where_front_into.ensures.list (two_stepped Cnot c.args.control c.args.target c.self.inside.limit c.self.inside.value c.exchange_where_front_into.new.entries.items c.requires.apart v (value_place c.args.self.now c.self.inside.limit c.self.inside.value (next_of c.self.inside.stage (amplitudes_of c.self.inside.next)) c.args.target i.most i.value c.self.view_is c.requires.target) (c.exchange_where_front_into.ensures.room ∙ n.room ∙ sym v.room) c.exchange_where_front_into.ensures.list)
+    subst (λ (b : Block). IsTwoGateStep Cnot c.args.control c.args.target record c.args.self.now { next = prepared c.args.self.now.value } (state c.self.inside.limit (amplitudes_of c.self.inside.value) (prepared (front (take b.count b.qubits) c.exchange_where_front_into.new.entries.items b.rows)))) (sym c.take_head.ensures)
+    (two_step Cnot c.args.control c.args.target record c.args.self.now { next = prepared c.args.self.now.value } c.self.inside.limit (amplitudes_of c.self.inside.value) Prepared (take c.self.inside.value.count c.self.inside.value.qubits) (list_of c.self.inside.value) (map omega_value (take c.self.inside.value.rows c.exchange_where_front_into.new.entries.items)) (ap (λ (t : RegisterState). state t.limit t.value (prepared t.value)) c.self.view_is) tt c.exchange_where_front_into.ensures.list (two_stepped Cnot c.args.control c.args.target c.self.inside.limit c.self.inside.value c.exchange_where_front_into.new.entries.items c.requires.apart v (value_place c.args.self.now c.self.inside.limit c.self.inside.value (next_of c.self.inside.stage (amplitudes_of c.self.inside.next)) c.args.target i.most i.value c.self.view_is c.requires.target) (c.exchange_where_front_into.ensures.room ∙ headed_room c.self.inside.value c.self.inside.next c.take_head.new.self c.take_head.ensures ∙ n.room ∙ sym v.room) c.exchange_where_front_into.ensures.list))

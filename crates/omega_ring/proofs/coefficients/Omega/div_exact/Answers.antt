@@ -1,6 +1,6 @@
-use Rattle.std.proofs.Common.{◌≡◌, ◌≢◌, ◌^◌, sym, ap, subst, ◌∙◌}
-use Rattle.state_model.specs.Coefficient.{Coefficient, zero_coefficient, ◌⊗◌}
-use Rattle.state_model.specs.Divisors.{Divides, norm}
+use Rattle.std.proofs.Common.{◌^◌, sym, ap, subst, ◌∙◌}
+use Rattle.state_model.specs.Coefficient.{Coefficient, ◌⊗◌}
+use Rattle.state_model.specs.Divisors.{norm}
 use Rattle.omega_ring.specs.Range.{CoordinatesBelow}
 use Rattle.omega_ring.specs.Steps.{IsReady, IsNearest, numerator}
 use Rattle.omega_ring.specs.Views.{omega_value, wide_value}
