@@ -1,7 +1,7 @@
 #!/bin/sh
 # Times gates on a dense register of 12 qubits, ours against libquantum's, in turn in one run, and prints
 # microseconds of processor time and the ratio: for a Hadamard and a turn by an eighth, and for a CNOT.
-# libquantum runs on one thread, as ours does.
+# libquantum runs on one thread, as ours does, and both on one core.
 set -eu
 root=$(cd "$(dirname "$0")/.." && pwd)
 room=$(mktemp -d)
@@ -14,10 +14,11 @@ cc -O2 -fopenmp "$root/bench/gates_libquantum.c" -o "$room/theirs" -lquantum -lm
 "$root/bench/timing_program.sh" gate_timing "$room/ours"
 
 OMP_NUM_THREADS=1 PYTHONDONTWRITEBYTECODE=1 PYTHONPATH="$root/bench" python3 - "$room" <<'PYTHON'
-import sys
+import os, sys
 from spent import spent
 
 room = sys.argv[1]
+os.sched_setaffinity(0, {min(os.sched_getaffinity(0))})
 
 def each(program, word):
     """Microseconds for one: 10 words are 10,000 more than none."""
