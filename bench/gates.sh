@@ -11,23 +11,22 @@ if ! [ -e /usr/include/quantum.h ]; then
     apt-get update >"$room/apt.log" && apt-get install -y libquantum-dev >>"$room/apt.log"
 fi
 cc -O2 -fopenmp "$root/bench/gates_libquantum.c" -o "$room/theirs" -lquantum -lm
-"$root/bench/timing_program.sh" gate_timing "$room/ours"
 
-OMP_NUM_THREADS=1 PYTHONDONTWRITEBYTECODE=1 PYTHONPATH="$root/bench" python3 - "$room" <<'PYTHON'
+OMP_NUM_THREADS=1 "$root/bench/timed.sh" gate_timing "$room/theirs" <<'PYTHON'
 import os, sys
 from spent import spent
 
-room = sys.argv[1]
+ours, theirs = sys.argv[1:]
 os.sched_setaffinity(0, {min(os.sched_getaffinity(0))})
 
 def each(program, word):
     """Microseconds for one: 10 words are 10,000 more than none."""
-    return (spent([f"{room}/{program}"] + [word] * 10) - spent([f"{room}/{program}"])) * 1e6 / 10_000
+    return (spent([program] + [word] * 10) - spent([program])) * 1e6 / 10_000
 
 for name, word in ("Hadamard and turn", "pairs"), ("CNOT", "nots"):
-    runs = [(each("ours", word), each("theirs", word)) for _ in range(9)]
-    for ours, theirs in runs:
-        print(f"{name}: ours {ours:6.1f} us   libquantum {theirs:6.1f} us   ratio {ours / theirs:.2f}")
-    ratios = sorted(ours / theirs for ours, theirs in runs)
+    runs = [(each(ours, word), each(theirs, word)) for _ in range(9)]
+    for one, other in runs:
+        print(f"{name}: ours {one:6.1f} us   libquantum {other:6.1f} us   ratio {one / other:.2f}")
+    ratios = sorted(one / other for one, other in runs)
     print(f"{name}: median ratio {ratios[len(ratios) // 2]:.2f}")
 PYTHON

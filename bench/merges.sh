@@ -1,24 +1,16 @@
 #!/bin/sh
 # Merges of two dense registers of 6 qubits in one of 12: microseconds of processor time for the verdict on a product
 # and the product, reduced and balanced.
-set -eu
-root=$(cd "$(dirname "$0")/.." && pwd)
-room=$(mktemp -d)
-trap 'rm -rf "$room"' EXIT
-"$root/bench/timing_program.sh" gate_timing "$room/ours"
-
-PYTHONDONTWRITEBYTECODE=1 PYTHONPATH="$root/bench" python3 - "$room" <<'PYTHON'
+"$(dirname "$0")/timed.sh" gate_timing <<'PYTHON'
 import sys
 from spent import spent
-
-room = sys.argv[1]
 
 # batches of 1,000 merges
 BATCHES = 10
 
 def seconds(words):
     """The processor time of a run that does as many merges as it was asked for."""
-    return spent([f"{room}/ours", "6"] + words, b"%d " % (1_000 * len(words)))
+    return spent([sys.argv[1], "6"] + words, b"%d " % (1_000 * len(words)))
 
 runs = sorted((seconds(["merges"] * BATCHES) - seconds([])) * 1e6 / (1_000 * BATCHES) for _ in range(9))
 for each in runs:
