@@ -1,13 +1,13 @@
 -- Exchanged and negated rows: the weight and the common divisors stay.
-use Rattle.std.proofs.Common.{◌≡◌, ◌≢◌, ℕ, zero, suc, ◌<◌, ◌+ℤ◌, pos, ◌<ℤ◌, ◌^◌, List, [], ◌∷◌, length, slice_set, refl, sym, ap, subst, ◌∙◌, arith, ⊎_elim}
+use Rattle.std.proofs.Common.{◌≡◌, ◌≢◌, ℕ, zero, suc, ◌<◌, ◌+ℤ◌, pos, ◌<ℤ◌, ◌^◌, List, [], ◌∷◌, length, slice_set, sym, ap, subst, ◌∙◌, arith, ⊎_elim}
 use borrow.Author.Differences.{ints}
 use Rattle.std.proofs.lemmas.Bool.{cases_eq}
 use Rattle.std.proofs.lemmas.List.{length-set, get_or-set_same, get_or-set_other}
-use Rattle.state_model.specs.Coefficient.{Coefficient, zero_coefficient, ◌⊗◌, negated, Weight, weight, weight_sum}
+use Rattle.state_model.specs.Coefficient.{Coefficient, zero_coefficient, negated, Weight, weight, weight_sum}
 use Rattle.state_model.specs.Divisors.{Divides, IsBalanced}
 use Rattle.state_model.specs.CoefficientList.{at, IsReduced, total_weight}
-use Rattle.state_model.proofs.Expressions.{same_weight, quad, mul_quad, weight_quad, equal_quads, equal_pairs, coordinates}
-use Rattle.state_model.proofs.Polynomial.{minus}
+use Rattle.state_model.proofs.Expressions.{same_weight}
+use Rattle.state_model.proofs.TwoGateLists.{weight-negated, divides_negated}
 use Rattle.amplitude_register.specs.States.{IsKept}
 use Rattle.state_model.specs.Amplitudes.{Amplitudes}
 
@@ -32,30 +32,12 @@ cancel_weight u v t e =
     let fy : u.y +ℤ t.y ≡ v.y +ℤ t.y = ap (λ (w : Weight). w.y) e in
     same_weight u v (omega (arith, ints)) (omega (arith, ints))
 
-pub negated_weight : (z : Coefficient) → weight (negated z) ≡ weight z
-negated_weight z =
-    let t = quad 0 in
-    equal_pairs (coordinates z []) (weight_quad record { a = minus t.a; b = minus t.b; c = minus t.c; d = minus t.d }) (weight_quad t) refl refl
-
-negated_times : (q u : Coefficient) → negated (q ⊗ u) ≡ negated q ⊗ u
-negated_times q u =
-    let s = quad 0 in let t = quad 4 in let p = mul_quad s t in
-    equal_quads (coordinates q (coordinates u [])) record { a = minus p.a; b = minus p.b; c = minus p.c; d = minus p.d } (mul_quad record { a = minus s.a; b = minus s.b; c = minus s.c; d = minus s.d } t) refl refl refl refl
-
-pub twice_negated : (z : Coefficient) → z ≡ negated (negated z)
-twice_negated z =
-    let t = quad 0 in
-    equal_quads (coordinates z []) t record { a = minus (minus t.a); b = minus (minus t.b); c = minus (minus t.c); d = minus (minus t.d) } refl refl refl refl
-
 -- ---- one row negated
 abbrev pub negated_row : List Coefficient → ℕ → List Coefficient
 negated_row cs i = slice_set cs i (negated (at cs i))
 
 pub negated_total : (cs : List Coefficient) (i : ℕ) → i < length cs → total_weight (negated_row cs i) ≡ total_weight cs
-negated_total cs i h = cancel_weight _ (total_weight cs) (weight (at cs i)) (weight_exchange cs i (negated (at cs i)) h ∙ ap (weight_sum (total_weight cs)) (negated_weight (at cs i)))
-
-pub divides_negated : (u z : Coefficient) → Divides u (negated z) → Divides u z
-divides_negated u z d = (negated (d.0), twice_negated z ∙ ap negated (d.1) ∙ negated_times (d.0) u)
+negated_total cs i h = cancel_weight _ (total_weight cs) (weight (at cs i)) (weight_exchange cs i (negated (at cs i)) h ∙ ap (weight_sum (total_weight cs)) (weight-negated (at cs i)))
 
 negated_reduced : (cs : List Coefficient) (i : ℕ) → i < length cs → IsReduced cs → IsReduced (negated_row cs i)
 negated_reduced cs i h r u d = r u each

@@ -1,11 +1,10 @@
 -- Lists over a common divisor: their sums of squares stay small, and over a greatest one they are reduced.
-use Rattle.std.proofs.Common.{◌≡◌, ◌≢◌, ℕ, ◌*◌, ◌<◌, ◌^◌, ℤ, pos, ◌+ℤ◌, ◌-ℤ◌, ◌*ℤ◌, neg_ℤ, ◌≤ℤ◌, ◌<ℤ◌, unsigned_abs, List, [], ◌∷◌, refl, ap, subst, ◌∙◌, arith}
+use Rattle.std.proofs.Common.{◌≡◌, ◌≢◌, ℕ, ◌*◌, ◌^◌, ℤ, pos, ◌+ℤ◌, ◌-ℤ◌, ◌*ℤ◌, neg_ℤ, ◌≤ℤ◌, ◌<ℤ◌, List, [], ◌∷◌, refl, ap, subst, ◌∙◌, arith}
 use Rattle.std.proofs.lemmas.Int.{by_lt_z, ints}
-use Rattle.std.proofs.lemmas.Nat.{mul-lt}
 use Rattle.state_model.specs.Coefficient.{Coefficient, zero_coefficient, one_coefficient, ◌⊗◌, Weight, weight, weight_sum}
 use Rattle.state_model.specs.Divisors.{Divides, IsBalanced, weight_product, norm}
 use Rattle.state_model.specs.CoefficientList.{at, DividesAll, IsNonzero, total_weight}
-use Rattle.state_model.proofs.Domain.{⊗-zero_coefficient, zero_coefficient-⊗, square_abs}
+use Rattle.state_model.proofs.Domain.{⊗-zero_coefficient, zero_coefficient-⊗}
 use Rattle.state_model.proofs.Euclid.{divides_trans}
 use Rattle.state_model.proofs.Expressions.{pair, mul_pair}
 use Rattle.state_model.proofs.Inequalities.{order, doubled, fourfold, square_not_negative, product_not_negative, product_positive}
@@ -15,11 +14,11 @@ use Rattle.state_model.proofs.Reduced.{unit_of_norm}
 use Rattle.state_model.proofs.Reduction.{quotients_reduced}
 use Rattle.state_model.proofs.RegisterSizes.{scaled_self}
 use Rattle.state_model.proofs.Units.{x_not_negative}
-use Rattle.omega_ring.specs.Range.{CoordinatesBelow}
 use Rattle.omega_ring.specs.Steps.{IsReady}
 use Rattle.amplitude_register.specs.Multiples.{AllWithin, AreTimes, IsReducedFrom}
 use Rattle.amplitude_register.proofs.Steps.{scaled_times, times_weight}
-use Rattle.amplitude_register.proofs.Roots.{root_of, square_is}
+use Rattle.omega_ring.proofs.Entries.{norm_bound}
+use Rattle.omega_ring.proofs.UnitSizes.{coordinates_below}
 use Rattle.amplitude_register.proofs.Sums.{entry_below, real_sum}
 
 -- ---- units
@@ -42,15 +41,12 @@ entry_small vs n i h = let k = entry_below vs i in along (weight (at vs i)).x (t
     along : (x y : ℤ) → x ≤ℤ y → y <ℤ pos n → x <ℤ pos n
     along x y k h = omega (arith, order)
 
--- the norm of an entry
-norm_bound : (x y : ℤ) → pos 0 ≤ℤ x → x <ℤ pos (2 ^ 60) → (x *ℤ x -ℤ pos 2 *ℤ (y *ℤ y)) <ℤ pos (2 ^ 122)
-norm_bound x y h k =
-    let e = square_abs x in
-    let f = square_not_negative y in
-    let g = doubled (y *ℤ y) in
-    let n : unsigned_abs x < 2 ^ 60 = omega (arith, ints) in
-    let m : unsigned_abs x * unsigned_abs x < 2 ^ 60 * 2 ^ 60 = mul-lt (unsigned_abs x) (unsigned_abs x) (2 ^ 60) (2 ^ 60) n n in
-    omega (arith, order)
+-- ---- sizes of the entries
+pub entries_small : (vs : List Coefficient) → (total_weight vs).x <ℤ pos (2 ^ 60) → (i : ℕ) → (weight (at vs i)).x <ℤ pos (2 ^ 61)
+entries_small vs h i = wider (weight (at vs i)).x (entry_small vs (2 ^ 60) i h)
+  where
+    wider : (x : ℤ) → x <ℤ pos (2 ^ 60) → x <ℤ pos (2 ^ 61)
+    wider x h = omega (arith, order)
 
 at_least : (q n m : ℤ) → pos 0 <ℤ q → pos 0 ≤ℤ n → (q *ℤ n) <ℤ m → n <ℤ m
 at_least q n m h k l =
@@ -62,29 +58,14 @@ pub divisor_ready : (vs : List Coefficient) (g : Coefficient) → IsNonzero vs �
 divisor_ready vs g some small d b =
     let k : Divides g (at vs (some.0)) = d (some.0) in
     let q : k.0 ≢ zero_coefficient = λ e. some.1 (k.1 ∙ ap (λ (t : Coefficient). t ⊗ g) e ∙ zero_coefficient-⊗ g) in
-    let n : norm (at vs (some.0)) <ℤ pos (2 ^ 122) = norm_bound (weight (at vs (some.0))).x (weight (at vs (some.0))).y (x_not_negative (at vs (some.0))) (entry_small vs (2 ^ 60) (some.0) small) in
+    let n : norm (at vs (some.0)) <ℤ pos (2 ^ 122) = norm_bound (weight (at vs (some.0))).x (weight (at vs (some.0))).y (x_not_negative (at vs (some.0))) (entries_small vs small (some.0)) in
     record { balanced = b; small = at_least (norm (k.0)) (norm g) (pos (2 ^ 122)) (norm_positive (k.0) q) (norm_not_negative g) (subst (λ (t : ℤ). t <ℤ pos (2 ^ 122)) (ap norm (k.1) ∙ norm-⊗ (k.0) g) n) }
 
--- ---- sizes of the entries
-pub entries_small : (vs : List Coefficient) → (total_weight vs).x <ℤ pos (2 ^ 60) → (i : ℕ) → (weight (at vs i)).x <ℤ pos (2 ^ 61)
-entries_small vs h i = wider (weight (at vs i)).x (entry_small vs (2 ^ 60) i h)
-  where
-    wider : (x : ℤ) → x <ℤ pos (2 ^ 60) → x <ℤ pos (2 ^ 61)
-    wider x h = omega (arith, order)
-
 pub entries_within : (vs : List Coefficient) → (total_weight vs).x <ℤ pos (2 ^ 60) → AllWithin (2 ^ 31) vs
-entries_within vs h i = within (at vs i) (entry_small vs (2 ^ 60) i h)
+entries_within vs h i = coordinates_below (2 ^ 31) (at vs i) (wider (weight (at vs i)).x (entry_small vs (2 ^ 60) i h))
   where
-    small_root : (a : ℤ) → (a *ℤ a) <ℤ pos (2 ^ 60) → unsigned_abs a < 2 ^ 31
-    small_root a h =
-        let e = square_is a in
-        let p : unsigned_abs a * unsigned_abs a < 2 ^ 31 * 2 ^ 31 = omega (arith, order) in
-        root_of (unsigned_abs a) (2 ^ 31) p
-
-    within : (z : Coefficient) → (weight z).x <ℤ pos (2 ^ 60) → CoordinatesBelow (2 ^ 31) z
-    within z h =
-        let p = square_not_negative z.a in let q = square_not_negative z.b in let r = square_not_negative z.c in let s = square_not_negative z.d in
-        record { a = small_root z.a (omega (arith, order)); b = small_root z.b (omega (arith, order)); c = small_root z.c (omega (arith, order)); d = small_root z.d (omega (arith, order)) }
+    wider : (x : ℤ) → x <ℤ pos (2 ^ 60) → x <ℤ pos (2 ^ 31 * 2 ^ 31)
+    wider x h = omega (arith, order)
 
 -- ---- the sum of squares of the quotients
 -- four times the absolute value of y is at most three times x

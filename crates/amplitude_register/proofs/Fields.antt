@@ -18,7 +18,7 @@ use Rattle.state_model.specs.StateVector.{IsSameState, IsSize}
 use Rattle.omega_ring.specs.Views.{omega_value, weight_value}
 use Rattle.omega_ring.specs.declared.coefficients.Omega.{Omega}
 use Rattle.state_model.proofs.Inequalities.{order}
-use Rattle.amplitude_register.proofs.Entries.{zero_omega, at_map}
+use Rattle.omega_ring.proofs.Entries.{zero_omega, at_map}
 use Rattle.state_model.proofs.RegisterLists.{scaled_same}
 use Rattle.state_model.proofs.RegisterSizes.{least_size, normal_size}
 use Rattle.state_model.proofs.Booleans.{eq_false}
@@ -30,7 +30,7 @@ use Rattle.amplitude_register.specs.Multiples.{HasPlace}
 use Rattle.state_model.specs.declared.Gate.{Gate}
 use Rattle.state_model.proofs.GateLists.{gate_total, gate_reduced}
 use Rattle.state_model.specs.Undo.{scale_of}
-use Rattle.omega_ring.specs.Range.{CoordinatesBelow}
+use Rattle.omega_ring.specs.Range.{CoordinatesBelow, PartsBelow}
 use Rattle.state_model.specs.declared.Gate.TheVariants.{X, RotZ}
 
 pub power_le : (i j : ℕ) → i ≤ j → 2 ^ i ≤ 2 ^ j
@@ -304,8 +304,8 @@ draft_present (draft a) h = tt
 draft_present empty h = absurd h
 draft_present (prepared a) h = absurd h
 
-pub has_place : (limit place : ℕ) (b : Block) → IsBlock limit b → place < b.count → HasPlace place b.rows
-has_place limit place b h l = record { qubits = b.count; inside = l; count = h.rows }
+pub has_place : (limit place : ℕ) (b : Block) → limit ≤ 12 → IsBlock limit b → place < b.count → HasPlace place b.rows
+has_place limit place b m h l = record { qubits = b.count; few = (let k = h.count in omega (arith, k, m)); inside = l; count = h.rows }
 
 -- the next value's list is the block's
 pub present_weight : (o : RegisterState) (l : ℕ) (v : Amplitudes) (s : Stage) (b : Block) → state l v (next_of s (amplitudes_of b)) ≡ o → IsPresent o.next → total_weight (next_value o.next).list ≡ total_weight (list_of b)
@@ -323,7 +323,7 @@ draft_range o l v s b e p h = present_range o l v s b e (draft_present o.next p)
 
 -- the weight of a weighed draft fits
 pub weighed_small : (o : RegisterState) (l : ℕ) (v : Amplitudes) (s : Stage) (b : Block) → state l v (next_of s (amplitudes_of b)) ≡ o → IsDraft o.next → (total_weight (next_value o.next).list).x <ℤ pos (2 ^ 121) → IsStage s b → s ≡ Weighed
-    → (nat_abs b.weight.x < 2 ^ 122) × (nat_abs b.weight.y < 2 ^ 122)
+    → PartsBelow (2 ^ 122) (weight_value b.weight)
 weighed_small o l v s b e p h k w =
     let q = weighed_is s b w k in
     small_of (list_of b) (weight_value b.weight) q (larger b.weight.x (subst (λ (t : Weight). t.x <ℤ pos (2 ^ 121)) (present_weight o l v s b e (draft_present o.next p) ∙ sym q) h))

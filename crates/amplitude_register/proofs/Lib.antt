@@ -1,8 +1,3 @@
-pub mod Entries
-pub mod Roots
-pub mod Parity
-pub mod Products
-pub mod Stored
 pub mod Loops
 pub mod Sums
 pub mod Steps
@@ -15,4 +10,5 @@ pub mod Written
 pub mod TwoGates
 pub mod Runs
 pub mod PreparedRows
+pub mod Placed
 pub mod FromValues

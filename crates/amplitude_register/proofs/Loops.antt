@@ -8,7 +8,7 @@ use Rattle.omega_ring.specs.Views.{omega_value}
 use Rattle.omega_ring.specs.declared.coefficients.Omega.{Omega}
 use Rattle.state_model.proofs.Domain.{zero_coefficient-⊗}
 use Rattle.amplitude_register.specs.Multiples.{AreTimes}
-use Rattle.amplitude_register.proofs.Entries.{zero_omega, at_map, at_past}
+use Rattle.omega_ring.proofs.Entries.{zero_omega, at_map, at_past}
 
 -- the entries below n are related to the old ones, and the others are the old ones
 pub record IsPartly (R : Coefficient → Coefficient → Type 0) (xs ys : List Omega) (n : ℕ) : Type 0 where

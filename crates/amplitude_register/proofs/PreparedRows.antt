@@ -11,7 +11,7 @@ use Rattle.amplitude_register.specs.Held.{IsBlock, IsStage, next_of, amplitudes_
 use Rattle.amplitude_register.specs.declared.block.Block.{Block}
 use Rattle.amplitude_register.specs.declared.block.Stage.{Stage}
 use Rattle.amplitude_register.specs.declared.block.Stage.TheVariants.{Empty, Open, Weighed, Prepared}
-use Rattle.amplitude_register.proofs.Entries.{zero_omega}
+use Rattle.omega_ring.proofs.Entries.{zero_omega}
 use Rattle.amplitude_register.proofs.Fields.{place_below, state, front, ready_state, ready_value, front_set, front_row, below_front, list_of, list_rows, same_front}
 use Rattle.amplitude_register.proofs.ChangedRows.{negated_row, swapped_rows, negated_total, swapped_total, negated_kept, swapped_kept, same_kept}
 use Rattle.state_model.proofs.TwoGateLists.{two_total, two_reduced}

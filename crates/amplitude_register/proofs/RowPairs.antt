@@ -18,7 +18,7 @@ use Rattle.state_model.specs.Amplitudes.{IsGateList}
 use Rattle.omega_ring.specs.Views.{omega_value}
 use Rattle.omega_ring.specs.declared.coefficients.Omega.{Omega}
 use Rattle.amplitude_register.specs.Multiples.{HasPlace}
-use Rattle.amplitude_register.proofs.Entries.{zero_omega, at_map, at_past}
+use Rattle.omega_ring.proofs.Entries.{zero_omega, at_map, at_past}
 use Rattle.state_model.proofs.Booleans.{clash}
 use Rattle.state_model.proofs.RowLaws.{is_set-with_bit_same}
 use Rattle.omega_ring.specs.Range.{CoordinatesBelow}
@@ -63,6 +63,9 @@ with_bit-below (suc n) (suc j) b r l h =
     small false r n m h e = omega arith
 
 -- a row's partner is a row too
+pub place_low : (place rows : ℕ) → HasPlace place rows → place < 12
+place_low place rows h = omega (arith, h.few, h.inside)
+
 pub pair_inside : (place rows row : ℕ) (b : Bool) → HasPlace place rows → row < rows → with_bit place b row < rows
 pair_inside place rows row b h l = subst (λ (t : ℕ). with_bit place b row < t) (sym h.count) (with_bit-below h.qubits place b row h.inside (subst (λ (t : ℕ). row < t) h.count l))
 

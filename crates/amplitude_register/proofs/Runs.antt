@@ -13,7 +13,7 @@ use Rattle.state_model.proofs.TwoGateLists.{turned_is, source_row, source_at}
 use Rattle.omega_ring.specs.Views.{omega_value}
 use Rattle.omega_ring.specs.declared.coefficients.Omega.{Omega}
 use Rattle.amplitude_register.specs.Multiples.{HasPlace}
-use Rattle.amplitude_register.proofs.Entries.{zero_omega}
+use Rattle.omega_ring.proofs.Entries.{zero_omega}
 use Rattle.amplitude_register.proofs.RowPairs.{value_at}
 use Rattle.amplitude_register.proofs.TwoGates.{source_inside}
 use Rattle.amplitude_register.proofs.Written.{IsWrittenFrom}

@@ -1,23 +1,24 @@
 -- One step of a division by a common divisor or of a product with a unit.
-use Rattle.std.proofs.Common.{◌≡◌, ◌≢◌, ℕ, ◌≤◌, ◌*◌, ◌<◌, ◌^◌, ℤ, pos, ◌+ℤ◌, ◌-ℤ◌, ◌*ℤ◌, neg_ℤ, ◌≤ℤ◌, ◌<ℤ◌, unsigned_abs, List, [], ◌∷◌, refl, sym, ap, subst, ◌∙◌, arith}
+use Rattle.std.proofs.Common.{◌≡◌, ◌≢◌, ℕ, ◌≤◌, ◌*◌, ◌<◌, ◌^◌, ℤ, pos, ◌+ℤ◌, ◌-ℤ◌, ◌*ℤ◌, neg_ℤ, ◌≤ℤ◌, ◌<ℤ◌, unsigned_abs, List, [], refl, sym, ap, subst, ◌∙◌, arith}
 use Rattle.std.proofs.lemmas.Int.{ints, unsigned_abs-mul}
 use native.Mathlib.Nat.{mul-le-mul}
-use Rattle.amplitude_register.proofs.Products.{lower_pair_is, upper_pair_is, both_is, both_pair_is}
+use Rattle.state_model.proofs.Delta.{product-both, product-conjugate, product-delta}
+use Rattle.omega_ring.proofs.WeightSteps.{product-unit_down, product-unit_up}
 use Rattle.amplitude_register.proofs.Sums.{IsReal, real_sum, entry_below}
 use Rattle.state_model.specs.Coefficient.{Coefficient, zero_coefficient, ◌⊗◌, Weight, weight}
-use Rattle.state_model.specs.Divisors.{Divides, weight_product, weight_norm, delta, unit_up, unit_down, IsBalanced}
+use Rattle.state_model.specs.Divisors.{weight_product, weight_norm, delta, delta_conjugate, both_deltas, unit_up, unit_down, IsBalanced}
 use Rattle.state_model.specs.CoefficientList.{at, DividesAll, IsScaled, IsNonzero, IsNormal, HasDeltaDivisors, total_weight}
 use Rattle.state_model.specs.Quotients.{IsEven}
-use Rattle.state_model.proofs.Polynomial.{number, plus, minus, less}
-use Rattle.state_model.proofs.Expressions.{quad, pair, mul_quad, mul_pair, equal_quads, equal_pairs, coordinates, same_weight}
-use Rattle.state_model.proofs.Ring.{⊗_comm, ⊗_assoc, same_coordinates}
+use Rattle.state_model.proofs.Polynomial.{number, minus}
+use Rattle.state_model.proofs.Expressions.{quad, mul_quad, equal_quads, coordinates, same_weight}
+use Rattle.state_model.proofs.Ring.{⊗_comm, ⊗_assoc}
 use Rattle.state_model.proofs.Domain.{zero_coefficient-⊗}
 use Rattle.state_model.proofs.Norms.{weight_norm-product, weight_below, weight_above, weight_norm_zero}
 use Rattle.state_model.proofs.Inequalities.{order}
 use Rattle.state_model.proofs.Least.{multiple_weight}
 use Rattle.state_model.proofs.Reduction.{delta_free_reduced}
 use Rattle.state_model.proofs.RegisterSizes.{scaled_trans}
-use Rattle.amplitude_register.specs.Multiples.{delta_conjugate, both_deltas, AreTimes}
+use Rattle.amplitude_register.specs.Multiples.{AreTimes}
 
 -- ---- multiples
 pub delta_nonzero : delta ≢ zero_coefficient
@@ -28,23 +29,6 @@ conjugate_nonzero e = let f : pos 1 ≡ pos 0 = ap (λ (z : Coefficient). z.a) e
 
 pub both_nonzero : both_deltas ≢ zero_coefficient
 both_nonzero e = let f : pos 1 ≡ pos 0 = ap (λ (z : Coefficient). z.a) e in cc f
-
--- where 1 - w^2 divides, the coordinates in turn agree in parity
-pub both_even : (z : Coefficient) → Divides both_deltas z → IsEven (z.a -ℤ z.c) × IsEven (z.b -ℤ z.d)
-both_even z d =
-    let q = d.0 in let e = d.1 ∙ both_is q in
-    ((q.a, twice z.a z.c q.a q.c (ap (λ (t : Coefficient). t.a) e) (ap (λ (t : Coefficient). t.c) e)), (q.b, twice z.b z.d q.b q.d (ap (λ (t : Coefficient). t.b) e) (ap (λ (t : Coefficient). t.d) e)))
-  where
-    twice : (x y p r : ℤ) → x ≡ p +ℤ r → y ≡ r -ℤ p → x -ℤ y ≡ p +ℤ p
-    twice x y p r e f = omega (arith, order)
-
-pub even_both : (z : Coefficient) → IsEven (z.a -ℤ z.c) → IsEven (z.b -ℤ z.d) → Divides both_deltas z
-even_both z h k =
-    let q : Coefficient = record { a = h.0; b = k.0; c = z.a -ℤ h.0; d = z.b -ℤ k.0 } in
-    (q, at z (h.0) (k.0) (h.1) (k.1) ∙ sym (both_is q))
-  where
-    at : (z : Coefficient) (h k : ℤ) → z.a -ℤ z.c ≡ h +ℤ h → z.b -ℤ z.d ≡ k +ℤ k → z ≡ record { a = h +ℤ (z.a -ℤ h); b = k +ℤ (z.b -ℤ k); c = (z.a -ℤ h) -ℤ h; d = (z.b -ℤ k) -ℤ k }
-    at z h k e f = same_coordinates z _ (omega (arith, order)) (omega (arith, order)) (omega (arith, order)) (omega (arith, order))
 
 pub up_nonzero : unit_up ≢ zero_coefficient
 up_nonzero e = let f : pos 1 ≡ pos 0 = ap (λ (z : Coefficient). z.a) e in cc f
@@ -93,7 +77,7 @@ abbrev lower_pair : Weight
 lower_pair = record { x = pos 2; y = pos 1 }
 
 abbrev upper_pair : Weight
-upper_pair = record { x = pos 2; y = pos 0 -ℤ pos 1 }
+upper_pair = record { x = pos 2; y = neg_ℤ (pos 1) }
 
 -- what one division by 1 + w or 1 - w leaves, where r is the weight that the code computes
 pub record IsDivided (vs us : List Coefficient) (w r : Weight) : Type 0 where
@@ -106,7 +90,7 @@ pub record IsDivided (vs us : List Coefficient) (w r : Weight) : Type 0 where
 pub lower_even : (vs us : List Coefficient) (w : Weight) → w ≡ total_weight vs → AreTimes vs us delta_conjugate → IsEven w.x
 lower_even vs us w e h =
     let v = total_weight us in
-    (v.x +ℤ v.y, ap (λ (t : Weight). t.x) (e ∙ times_weight vs us delta_conjugate h ∙ lower_pair_is v) ∙ split v)
+    (v.x +ℤ v.y, ap (λ (t : Weight). t.x) (e ∙ times_weight vs us delta_conjugate h ∙ product-conjugate v) ∙ split v)
   where
     split : (v : Weight) → v.x +ℤ v.x +ℤ v.y +ℤ v.y ≡ (v.x +ℤ v.y) +ℤ (v.x +ℤ v.y)
     split v = omega (arith, order)
@@ -114,37 +98,36 @@ lower_even vs us w e h =
 pub upper_even : (vs us : List Coefficient) (w : Weight) → w ≡ total_weight vs → AreTimes vs us delta → IsEven w.x
 upper_even vs us w e h =
     let v = total_weight us in
-    (v.x -ℤ v.y, ap (λ (t : Weight). t.x) (e ∙ times_weight vs us delta h ∙ upper_pair_is v) ∙ split v)
+    (v.x -ℤ v.y, ap (λ (t : Weight). t.x) (e ∙ times_weight vs us delta h ∙ product-delta v) ∙ split v)
   where
     split : (v : Weight) → v.x +ℤ v.x -ℤ v.y -ℤ v.y ≡ (v.x -ℤ v.y) +ℤ (v.x -ℤ v.y)
     split v = omega (arith, order)
 
 cancel_lower : (v u : Weight) → weight_product v lower_pair ≡ weight_product u lower_pair → v ≡ u
 cancel_lower v u e =
-    let f = sym (lower_pair_is v) ∙ e ∙ lower_pair_is u in
+    let f = sym (product-conjugate v) ∙ e ∙ product-conjugate u in
     let fx = ap (λ (t : Weight). t.x) f in let fy = ap (λ (t : Weight). t.y) f in
     same_weight v u (omega (arith, order)) (omega (arith, order))
 
 cancel_upper : (v u : Weight) → weight_product v upper_pair ≡ weight_product u upper_pair → v ≡ u
 cancel_upper v u e =
-    let f = sym (upper_pair_is v) ∙ e ∙ upper_pair_is u in
+    let f = sym (product-delta v) ∙ e ∙ product-delta u in
     let fx = ap (λ (t : Weight). t.x) f in let fy = ap (λ (t : Weight). t.y) f in
     same_weight v u (omega (arith, order)) (omega (arith, order))
 
 x_of : (r : Weight) (us : List Coefficient) → r ≡ total_weight us → IsNonzero us → pos 0 <ℤ r.x
 x_of r us e n = subst (λ (t : Weight). pos 0 <ℤ t.x) (sym e) (x_positive us n)
 
+divided_by : (d : Coefficient) (m : ℕ) (vs us : List Coefficient) (w r : Weight) → d ≢ zero_coefficient → ((v u : Weight) → weight_product v (weight d) ≡ weight_product u (weight d) → v ≡ u) → weight_norm (weight d) ≡ pos m → 2 ≤ m
+    → w ≡ total_weight vs → IsNonzero vs → AreTimes vs us d → w ≡ weight_product r (weight d) → (pos 0 <ℤ r.x → r.x ≤ℤ w.x) → IsDivided vs us w r
+divided_by d m vs us w r some cancel norm two e n h f less =
+    let g : r ≡ total_weight us = cancel r (total_weight us) (sym f ∙ e ∙ times_weight vs us d h) in
+    let k = times_nonzero vs us d h n in
+    let x = x_of r us g k in
+    record { weight = g; smaller = less x; nonzero = k; falls = norm_falls w r (weight d) m f norm two x; scaled = scaled_times vs us d some h }
+
 pub lower_step : (vs us : List Coefficient) (w r : Weight) → w ≡ total_weight vs → pos 0 ≤ℤ w.y → IsNonzero vs → AreTimes vs us delta_conjugate → w ≡ weight_product r lower_pair → IsDivided vs us w r
-lower_step vs us w r e s n h f =
-    let g : r ≡ total_weight us = cancel_lower r (total_weight us) (sym f ∙ e ∙ times_weight vs us delta_conjugate h) in
-    let m = times_nonzero vs us delta_conjugate h n in
-    record {
-      weight = g;
-      smaller = not_more w r s (f ∙ lower_pair_is r);
-      nonzero = m;
-      falls = norm_falls w r lower_pair 2 f refl (omega arith) (x_of r us g m);
-      scaled = scaled_times vs us delta_conjugate conjugate_nonzero h;
-    }
+lower_step vs us w r e s n h f = divided_by delta_conjugate 2 vs us w r conjugate_nonzero cancel_lower refl (omega arith) e n h f (λ p. not_more w r s (f ∙ product-conjugate r))
   where
     not_more : (w r : Weight) → pos 0 ≤ℤ w.y → w ≡ record { x = r.x +ℤ r.x +ℤ r.y +ℤ r.y; y = r.x +ℤ r.y +ℤ r.y } → r.x ≤ℤ w.x
     not_more w r s f =
@@ -152,16 +135,7 @@ lower_step vs us w r e s n h f =
         omega (arith, order)
 
 pub upper_step : (vs us : List Coefficient) (w r : Weight) → w ≡ total_weight vs → w.y ≤ℤ pos 0 → IsNonzero vs → AreTimes vs us delta → w ≡ weight_product r upper_pair → IsDivided vs us w r
-upper_step vs us w r e s n h f =
-    let g : r ≡ total_weight us = cancel_upper r (total_weight us) (sym f ∙ e ∙ times_weight vs us delta h) in
-    let m = times_nonzero vs us delta h n in
-    record {
-      weight = g;
-      smaller = not_more w r s (f ∙ upper_pair_is r);
-      nonzero = m;
-      falls = norm_falls w r upper_pair 2 f refl (omega arith) (x_of r us g m);
-      scaled = scaled_times vs us delta delta_nonzero h;
-    }
+upper_step vs us w r e s n h f = divided_by delta 2 vs us w r delta_nonzero cancel_upper refl (omega arith) e n h f (λ p. not_more w r s (f ∙ product-delta r))
   where
     not_more : (w r : Weight) → w.y ≤ℤ pos 0 → w ≡ record { x = r.x +ℤ r.x -ℤ r.y -ℤ r.y; y = r.y +ℤ r.y -ℤ r.x } → r.x ≤ℤ w.x
     not_more w r s f =
@@ -174,26 +148,17 @@ both_pair = record { x = pos 2; y = pos 0 }
 
 pub both_weights_even : (vs us : List Coefficient) (w : Weight) → w ≡ total_weight vs → AreTimes vs us both_deltas → IsEven w.x × IsEven w.y
 both_weights_even vs us w e h =
-    let v = total_weight us in let f = e ∙ times_weight vs us both_deltas h ∙ both_pair_is v in
+    let v = total_weight us in let f = e ∙ times_weight vs us both_deltas h ∙ product-both v in
     ((v.x, ap (λ (t : Weight). t.x) f), (v.y, ap (λ (t : Weight). t.y) f))
 
 cancel_both : (v u : Weight) → weight_product v both_pair ≡ weight_product u both_pair → v ≡ u
 cancel_both v u e =
-    let f = sym (both_pair_is v) ∙ e ∙ both_pair_is u in
+    let f = sym (product-both v) ∙ e ∙ product-both u in
     let fx = ap (λ (t : Weight). t.x) f in let fy = ap (λ (t : Weight). t.y) f in
     same_weight v u (omega (arith, order)) (omega (arith, order))
 
 pub both_step : (vs us : List Coefficient) (w r : Weight) → w ≡ total_weight vs → IsNonzero vs → AreTimes vs us both_deltas → w ≡ weight_product r both_pair → IsDivided vs us w r
-both_step vs us w r e n h f =
-    let g : r ≡ total_weight us = cancel_both r (total_weight us) (sym f ∙ e ∙ times_weight vs us both_deltas h) in
-    let m = times_nonzero vs us both_deltas h n in
-    record {
-      weight = g;
-      smaller = not_more w r (x_of r us g m) (f ∙ both_pair_is r);
-      nonzero = m;
-      falls = norm_falls w r both_pair 4 f refl (omega arith) (x_of r us g m);
-      scaled = scaled_times vs us both_deltas both_nonzero h;
-    }
+both_step vs us w r e n h f = divided_by both_deltas 4 vs us w r both_nonzero cancel_both refl (omega arith) e n h f (λ p. not_more w r p (f ∙ product-both r))
   where
     not_more : (w r : Weight) → pos 0 <ℤ r.x → w ≡ record { x = r.x +ℤ r.x; y = r.y +ℤ r.y } → r.x ≤ℤ w.x
     not_more w r s f = let fx = ap (λ (t : Weight). t.x) f in omega (arith, order)
@@ -209,53 +174,37 @@ times_up_down z =
     let t = quad 0 in let one = number (pos 1) in let nought = number (pos 0) in
     equal_quads (coordinates z []) t (mul_quad (mul_quad t record { a = one; b = one; c = nought; d = minus one }) record { a = minus one; b = one; c = nought; d = minus one }) refl refl refl refl
 
-down_weight_is : (v : Weight) → weight_product v (weight unit_down) ≡ record { x = (v.x +ℤ v.x +ℤ v.x) -ℤ (v.y +ℤ v.y +ℤ v.y +ℤ v.y); y = (v.y +ℤ v.y +ℤ v.y) -ℤ (v.x +ℤ v.x) }
-down_weight_is v =
-    let t = pair 0 in
-    equal_pairs (v.x ∷ v.y ∷ []) (mul_pair t record { x = number (pos 3); y = number (neg_ℤ (pos 2)) }) record { x = less (plus (plus t.x t.x) t.x) (plus (plus (plus t.y t.y) t.y) t.y); y = less (plus (plus t.y t.y) t.y) (plus t.x t.x) } refl refl
-
-up_weight_is : (v : Weight) → weight_product v (weight unit_up) ≡ record { x = (v.x +ℤ v.x +ℤ v.x) +ℤ (v.y +ℤ v.y +ℤ v.y +ℤ v.y); y = (v.y +ℤ v.y +ℤ v.y) +ℤ (v.x +ℤ v.x) }
-up_weight_is v =
-    let t = pair 0 in
-    equal_pairs (v.x ∷ v.y ∷ []) (mul_pair t record { x = number (pos 3); y = number (pos 2) }) record { x = plus (plus (plus t.x t.x) t.x) (plus (plus (plus t.y t.y) t.y) t.y); y = plus (plus (plus t.y t.y) t.y) (plus t.x t.x) } refl refl
-
 pub record IsTurned (vs us : List Coefficient) (w r : Weight) : Type 0 where
   pub weight : r ≡ total_weight us
   pub small : r.x <ℤ pos (2 ^ 122)
   pub falls : unsigned_abs r.x < unsigned_abs w.x
   pub scaled : IsScaled us vs
 
-pub down_step : (vs us : List Coefficient) (w r : Weight) → w ≡ total_weight vs → w.x <ℤ pos (2 ^ 122) → w.x <ℤ (w.y +ℤ w.y) → AreTimes us vs unit_down → r.x ≡ (w.x +ℤ w.x +ℤ w.x) -ℤ (w.y +ℤ w.y +ℤ w.y +ℤ w.y) → r.y ≡ (w.y +ℤ w.y +ℤ w.y) -ℤ (w.x +ℤ w.x) → IsTurned vs us w r
-down_step vs us w r e s l h fx fy =
-    let g : r ≡ total_weight us = same_weight r record { x = (w.x +ℤ w.x +ℤ w.x) -ℤ (w.y +ℤ w.y +ℤ w.y +ℤ w.y); y = (w.y +ℤ w.y +ℤ w.y) -ℤ (w.x +ℤ w.x) } fx fy ∙ sym (down_weight_is w) ∙ ap (λ (t : Weight). weight_product t (weight unit_down)) e ∙ sym (times_weight us vs unit_down h) in
+turned_by : (d back : Coefficient) (vs us : List Coefficient) (w r : Weight) → back ≢ zero_coefficient → ((z : Coefficient) → z ≡ (z ⊗ d) ⊗ back)
+    → w ≡ total_weight vs → w.x <ℤ pos (2 ^ 122) → AreTimes us vs d → r ≡ weight_product w (weight d) → (pos 0 ≤ℤ r.x → r.x <ℤ w.x) → IsTurned vs us w r
+turned_by d back vs us w r some inverse e s h f less =
+    let g : r ≡ total_weight us = f ∙ ap (λ (t : Weight). weight_product t (weight d)) e ∙ sym (times_weight us vs d h) in
     let p : IsReal r = subst IsReal (sym g) (real_sum us) in
-    let b : (r.x <ℤ w.x) × (unsigned_abs r.x < unsigned_abs w.x) = below w.x w.y r.x p.positive l fx in
-    record { weight = g; small = trans r.x w.x (b.0) s; falls = b.1; scaled = scaled_times vs us unit_up up_nonzero record { rows = sym h.rows; value = λ i. times_down_up (at vs i) ∙ ap (λ (t : Coefficient). t ⊗ unit_up) (sym (h.value i)) } }
+    let b = less p.positive in
+    record { weight = g; small = trans r.x w.x b s; falls = fall r.x w.x p.positive b; scaled = scaled_times vs us back some record { rows = sym h.rows; value = λ i. inverse (at vs i) ∙ ap (λ (t : Coefficient). t ⊗ back) (sym (h.value i)) } }
   where
-    below : (x y z : ℤ) → pos 0 ≤ℤ z → x <ℤ (y +ℤ y) → z ≡ (x +ℤ x +ℤ x) -ℤ (y +ℤ y +ℤ y +ℤ y) → (z <ℤ x) × (unsigned_abs z < unsigned_abs x)
-    below x y z p l f = let k : z <ℤ x = omega (arith, order) in (k, fall z x p k)
-      where
-        fall : (z x : ℤ) → pos 0 ≤ℤ z → z <ℤ x → unsigned_abs z < unsigned_abs x
-        fall z x p k = omega (arith, ints)
+    fall : (z x : ℤ) → pos 0 ≤ℤ z → z <ℤ x → unsigned_abs z < unsigned_abs x
+    fall z x p k = omega (arith, ints)
 
     trans : (z x : ℤ) → z <ℤ x → x <ℤ pos (2 ^ 122) → z <ℤ pos (2 ^ 122)
     trans z x k s = omega (arith, order)
 
-pub up_step : (vs us : List Coefficient) (w r : Weight) → w ≡ total_weight vs → w.x <ℤ pos (2 ^ 122) → (w.x +ℤ w.y +ℤ w.y) <ℤ pos 0 → AreTimes us vs unit_up → r.x ≡ (w.x +ℤ w.x +ℤ w.x) +ℤ (w.y +ℤ w.y +ℤ w.y +ℤ w.y) → r.y ≡ (w.y +ℤ w.y +ℤ w.y) +ℤ (w.x +ℤ w.x) → IsTurned vs us w r
-up_step vs us w r e s l h fx fy =
-    let g : r ≡ total_weight us = same_weight r record { x = (w.x +ℤ w.x +ℤ w.x) +ℤ (w.y +ℤ w.y +ℤ w.y +ℤ w.y); y = (w.y +ℤ w.y +ℤ w.y) +ℤ (w.x +ℤ w.x) } fx fy ∙ sym (up_weight_is w) ∙ ap (λ (t : Weight). weight_product t (weight unit_up)) e ∙ sym (times_weight us vs unit_up h) in
-    let p : IsReal r = subst IsReal (sym g) (real_sum us) in
-    let b : (r.x <ℤ w.x) × (unsigned_abs r.x < unsigned_abs w.x) = below w.x w.y r.x p.positive l fx in
-    record { weight = g; small = trans r.x w.x (b.0) s; falls = b.1; scaled = scaled_times vs us unit_down down_nonzero record { rows = sym h.rows; value = λ i. times_up_down (at vs i) ∙ ap (λ (t : Coefficient). t ⊗ unit_down) (sym (h.value i)) } }
+pub down_step : (vs us : List Coefficient) (w r : Weight) → w ≡ total_weight vs → w.x <ℤ pos (2 ^ 122) → w.x <ℤ (w.y +ℤ w.y) → AreTimes us vs unit_down → r ≡ weight_product w (weight unit_down) → IsTurned vs us w r
+down_step vs us w r e s l h f = turned_by unit_down unit_up vs us w r up_nonzero times_down_up e s h f (λ p. below w.x w.y r.x p l (ap (λ (t : Weight). t.x) (f ∙ product-unit_down w)))
   where
-    below : (x y z : ℤ) → pos 0 ≤ℤ z → (x +ℤ y +ℤ y) <ℤ pos 0 → z ≡ (x +ℤ x +ℤ x) +ℤ (y +ℤ y +ℤ y +ℤ y) → (z <ℤ x) × (unsigned_abs z < unsigned_abs x)
-    below x y z p l f = let k : z <ℤ x = omega (arith, order) in (k, fall z x p k)
-      where
-        fall : (z x : ℤ) → pos 0 ≤ℤ z → z <ℤ x → unsigned_abs z < unsigned_abs x
-        fall z x p k = omega (arith, ints)
+    below : (x y z : ℤ) → pos 0 ≤ℤ z → x <ℤ (y +ℤ y) → z ≡ (x +ℤ x +ℤ x) -ℤ (y +ℤ y +ℤ y +ℤ y) → z <ℤ x
+    below x y z p l f = omega (arith, order)
 
-    trans : (z x : ℤ) → z <ℤ x → x <ℤ pos (2 ^ 122) → z <ℤ pos (2 ^ 122)
-    trans z x k s = omega (arith, order)
+pub up_step : (vs us : List Coefficient) (w r : Weight) → w ≡ total_weight vs → w.x <ℤ pos (2 ^ 122) → (w.x +ℤ w.y +ℤ w.y) <ℤ pos 0 → AreTimes us vs unit_up → r ≡ weight_product w (weight unit_up) → IsTurned vs us w r
+up_step vs us w r e s l h f = turned_by unit_up unit_down vs us w r down_nonzero times_up_down e s h f (λ p. below w.x w.y r.x p l (ap (λ (t : Weight). t.x) (f ∙ product-unit_up w)))
+  where
+    below : (x y z : ℤ) → pos 0 ≤ℤ z → (x +ℤ y +ℤ y) <ℤ pos 0 → z ≡ (x +ℤ x +ℤ x) +ℤ (y +ℤ y +ℤ y +ℤ y) → z <ℤ x
+    below x y z p l f = omega (arith, order)
 
 -- ---- the whole
 pub divides_scaled_all : (us vs : List Coefficient) (u : Coefficient) → IsScaled us vs → DividesAll u us → DividesAll u vs

@@ -1,18 +1,18 @@
 -- The sum of the weights of the first entries of a list.
-use Rattle.std.proofs.Common.{◌≡◌, ℕ, zero, suc, ◌+◌, ◌*◌, ◌<◌, ◌≤◌, ◌^◌, ℤ, pos, ◌+ℤ◌, ◌*ℤ◌, neg_ℤ, ◌≤ℤ◌, ◌<ℤ◌, unsigned_abs, FitsSigned, map, length, get_or, List, [], ◌∷◌, refl, sym, ap, subst, ◌∙◌, arith, add-one}
+use Rattle.std.proofs.Common.{◌≡◌, ℕ, zero, suc, ◌+◌, ◌<◌, ◌≤◌, ◌^◌, ℤ, pos, ◌+ℤ◌, neg_ℤ, ◌≤ℤ◌, ◌<ℤ◌, unsigned_abs, FitsSigned, map, length, get_or, List, [], ◌∷◌, refl, sym, ap, subst, ◌∙◌, arith, add-one}
 use Rattle.std.proofs.lemmas.Int.{ints, fits_signed_from_abs}
 use mir.Syntax.{w128}
-use Rattle.amplitude_register.proofs.Stored.{long, long_is}
+use Rattle.omega_ring.proofs.Stored.{long, back_of}
 use Rattle.state_model.specs.Coefficient.{Coefficient, Weight, weight, weight_sum}
 use Rattle.state_model.specs.CoefficientList.{total_weight, at}
 use Rattle.omega_ring.specs.Views.{omega_value}
-use Rattle.omega_ring.specs.Range.{CoordinatesBelow}
+use Rattle.omega_ring.specs.Range.{CoordinatesBelow, PartsBelow}
 use Rattle.omega_ring.specs.declared.coefficients.Omega.{Omega}
 use Rattle.state_model.proofs.Expressions.{same_weight}
-use Rattle.state_model.proofs.Inequalities.{order, square_not_negative}
+use Rattle.state_model.proofs.Inequalities.{order}
 use Rattle.state_model.proofs.Units.{x_not_negative, y_at_most}
-use Rattle.amplitude_register.proofs.Entries.{zero_omega, at_map}
-use Rattle.amplitude_register.proofs.Roots.{root_of, square_is}
+use Rattle.omega_ring.proofs.Entries.{zero_omega, at_map}
+use Rattle.omega_ring.proofs.UnitSizes.{coordinates_below}
 
 abbrev no_weight : Weight
 no_weight = record { x = pos 0; y = pos 0 }
@@ -51,7 +51,7 @@ pub record IsReal (w : Weight) : Type 0 where
 real_zero : IsReal no_weight
 real_zero = record { positive = omega (arith, order); above = omega (arith, order); below = omega (arith, order) }
 
-real_add : (v w : Weight) → IsReal v → IsReal w → IsReal (weight_sum v w)
+pub real_add : (v w : Weight) → IsReal v → IsReal w → IsReal (weight_sum v w)
 real_add v w h k = record { positive = omega (arith, order, h.positive, k.positive); above = omega (arith, order, h.above, k.above); below = omega (arith, order, h.below, k.below) }
 
 pub real_weight : (z : Coefficient) → IsReal (weight z)
@@ -87,59 +87,42 @@ entry_below (v ∷ vs) (suc i) = let h = real_weight v in later (weight v) (tota
     later u w t h k = omega (arith, order)
 
 -- ---- sizes
+less_along : (x y : ℤ) → x ≤ℤ y → y <ℤ pos (2 ^ 122) → x <ℤ pos (2 ^ 122)
+less_along x y k h = omega (arith, order)
+
 -- the coordinates of entries whose squares sum up to less than 2^122
 pub within_sum : (vs : List Coefficient) → (total_weight vs).x <ℤ pos (2 ^ 122) → (i : ℕ) → CoordinatesBelow (2 ^ 61) (at vs i)
-within_sum vs h i = within_weight (at vs i) (let k = entry_below vs i in less_along (weight (at vs i)).x (total_weight vs).x k h)
-  where
-    less_along : (x y : ℤ) → x ≤ℤ y → y <ℤ pos (2 ^ 122) → x <ℤ pos (2 ^ 122)
-    less_along x y k h = omega (arith, order)
+within_sum vs h i = coordinates_below (2 ^ 61) (at vs i) (less_along (weight (at vs i)).x (total_weight vs).x (entry_below vs i) h)
 
-    small_root : (a : ℤ) → (a *ℤ a) <ℤ pos (2 ^ 122) → unsigned_abs a < 2 ^ 61
-    small_root a h =
-        let e = square_is a in
-        let p : unsigned_abs a * unsigned_abs a < 2 ^ 61 * 2 ^ 61 = omega (arith, order) in
-        root_of (unsigned_abs a) (2 ^ 61) p
-
-    within_weight : (z : Coefficient) → (weight z).x <ℤ pos (2 ^ 122) → CoordinatesBelow (2 ^ 61) z
-    within_weight z h =
-        let p = square_not_negative z.a in let q = square_not_negative z.b in let r = square_not_negative z.c in let s = square_not_negative z.d in
-        record { a = small_root z.a (omega (arith, order)); b = small_root z.b (omega (arith, order)); c = small_root z.c (omega (arith, order)); d = small_root z.d (omega (arith, order)) }
-
-pub real_small : (w : Weight) → IsReal w → w.x <ℤ pos (2 ^ 122) → (unsigned_abs w.x < 2 ^ 122) × (unsigned_abs w.y < 2 ^ 122)
+pub real_small : (w : Weight) → IsReal w → w.x <ℤ pos (2 ^ 122) → PartsBelow (2 ^ 122) w
 real_small w h s = at w.x w.y h.positive h.above h.below s
   where
-    at : (x y : ℤ) → pos 0 ≤ℤ x → y ≤ℤ x → neg_ℤ y ≤ℤ x → x <ℤ pos (2 ^ 122) → (unsigned_abs x < 2 ^ 122) × (unsigned_abs y < 2 ^ 122)
-    at x y p a b s = (omega (arith, ints), omega (arith, ints))
+    at : (x y : ℤ) → pos 0 ≤ℤ x → y ≤ℤ x → neg_ℤ y ≤ℤ x → x <ℤ pos (2 ^ 122) → PartsBelow (2 ^ 122) record { x = x; y = y }
+    at x y p a b s = record { x = omega (arith, ints); y = omega (arith, ints) }
 
-until_small : (xs : List Omega) (n : ℕ) → (total_weight (map omega_value xs)).x <ℤ pos (2 ^ 122) → (unsigned_abs (weight_until xs n).x < 2 ^ 122) × (unsigned_abs (weight_until xs n).y < 2 ^ 122)
+until_small : (xs : List Omega) (n : ℕ) → (total_weight (map omega_value xs)).x <ℤ pos (2 ^ 122) → PartsBelow (2 ^ 122) (weight_until xs n)
 until_small xs n h = real_small (weight_until xs n) (real_until xs n) (less_along (weight_until xs n).x (total_weight (map omega_value xs)).x (until_below xs n) h)
-  where
-    less_along : (x y : ℤ) → x ≤ℤ y → y <ℤ pos (2 ^ 122) → x <ℤ pos (2 ^ 122)
-    less_along x y k h = omega (arith, order)
 
 abbrev entry_weight : List Omega → ℕ → Weight
 entry_weight xs n = weight (omega_value (get_or xs n zero_omega))
 
-entry_small : (xs : List Omega) (n : ℕ) → (total_weight (map omega_value xs)).x <ℤ pos (2 ^ 122) → (unsigned_abs (entry_weight xs n).x < 2 ^ 122) × (unsigned_abs (entry_weight xs n).y < 2 ^ 122)
+entry_small : (xs : List Omega) (n : ℕ) → (total_weight (map omega_value xs)).x <ℤ pos (2 ^ 122) → PartsBelow (2 ^ 122) (entry_weight xs n)
 entry_small xs n h = real_small (entry_weight xs n) (real_weight (omega_value (get_or xs n zero_omega)))
     (less_along (entry_weight xs n).x (total_weight (map omega_value xs)).x (subst (λ (t : Coefficient). (weight t).x ≤ℤ (total_weight (map omega_value xs)).x) (at_map xs n) (entry_below (map omega_value xs) n)) h)
-  where
-    less_along : (x y : ℤ) → x ≤ℤ y → y <ℤ pos (2 ^ 122) → x <ℤ pos (2 ^ 122)
-    less_along x y k h = omega (arith, order)
 
 -- the sum of two stored numbers
 plain_sum : (x y n m : ℤ) → x ≡ n → y ≡ m → unsigned_abs n < 2 ^ 122 → unsigned_abs m < 2 ^ 122 → x +ℤ long y ≡ n +ℤ m
-plain_sum x y n m e f p q = rw (e, f) (rw (long_is m (omega arith)) refl)
+plain_sum x y n m e f p q = rw (e, f) (rw (back_of m (omega arith)) refl)
 
 pub more_fits_x : (xs : List Omega) (n : ℕ) (x : ℤ) (w : Weight) → n < length xs → (total_weight (map omega_value xs)).x <ℤ pos (2 ^ 122) → x ≡ (weight_until xs n).x → w ≡ entry_weight xs n → FitsSigned w128 (x +ℤ long w.x)
 more_fits_x xs n x w l h e f =
     let t = until_small xs n h in let k = entry_small xs n h in let u = until_small xs (n + 1) h in
-    subst (FitsSigned w128) (sym (plain_sum x w.x (weight_until xs n).x (entry_weight xs n).x e (ap (λ (v : Weight). v.x) f) (t.0) (k.0) ∙ sym (ap (λ (v : Weight). v.x) (until_more xs n l)))) (fits_signed_from_abs w128 (weight_until xs (n + 1)).x (omega (arith, u.0)))
+    subst (FitsSigned w128) (sym (plain_sum x w.x (weight_until xs n).x (entry_weight xs n).x e (ap (λ (v : Weight). v.x) f) t.x k.x ∙ sym (ap (λ (v : Weight). v.x) (until_more xs n l)))) (fits_signed_from_abs w128 (weight_until xs (n + 1)).x (omega (arith, u.x)))
 
 pub more_fits_y : (xs : List Omega) (n : ℕ) (y : ℤ) (w : Weight) → n < length xs → (total_weight (map omega_value xs)).x <ℤ pos (2 ^ 122) → y ≡ (weight_until xs n).y → w ≡ entry_weight xs n → FitsSigned w128 (y +ℤ long w.y)
 more_fits_y xs n y w l h e f =
     let t = until_small xs n h in let k = entry_small xs n h in let u = until_small xs (n + 1) h in
-    subst (FitsSigned w128) (sym (plain_sum y w.y (weight_until xs n).y (entry_weight xs n).y e (ap (λ (v : Weight). v.y) f) (t.1) (k.1) ∙ sym (ap (λ (v : Weight). v.y) (until_more xs n l)))) (fits_signed_from_abs w128 (weight_until xs (n + 1)).y (omega (arith, u.1)))
+    subst (FitsSigned w128) (sym (plain_sum y w.y (weight_until xs n).y (entry_weight xs n).y e (ap (λ (v : Weight). v.y) f) t.y k.y ∙ sym (ap (λ (v : Weight). v.y) (until_more xs n l)))) (fits_signed_from_abs w128 (weight_until xs (n + 1)).y (omega (arith, u.y)))
 
 pub record IsStored (x y : ℤ) (v : Weight) : Type 0 where
   pub x_is : x ≡ v.x
@@ -149,8 +132,8 @@ pub stored_more : (xs : List Omega) (n : ℕ) (x y : ℤ) (w : Weight) → n < l
 stored_more xs n x y w l h e f g =
     let t = until_small xs n h in let k = entry_small xs n h in let u = until_small xs (n + 1) h in
     record {
-      x_is = ap long (plain_sum x w.x (weight_until xs n).x (entry_weight xs n).x e (ap (λ (v : Weight). v.x) g) (t.0) (k.0) ∙ sym (ap (λ (v : Weight). v.x) (until_more xs n l))) ∙ long_is (weight_until xs (n + 1)).x (omega (arith, u.0));
-      y_is = ap long (plain_sum y w.y (weight_until xs n).y (entry_weight xs n).y f (ap (λ (v : Weight). v.y) g) (t.1) (k.1) ∙ sym (ap (λ (v : Weight). v.y) (until_more xs n l))) ∙ long_is (weight_until xs (n + 1)).y (omega (arith, u.1));
+      x_is = ap long (plain_sum x w.x (weight_until xs n).x (entry_weight xs n).x e (ap (λ (v : Weight). v.x) g) t.x k.x ∙ sym (ap (λ (v : Weight). v.x) (until_more xs n l))) ∙ back_of (weight_until xs (n + 1)).x (omega (arith, u.x));
+      y_is = ap long (plain_sum y w.y (weight_until xs n).y (entry_weight xs n).y f (ap (λ (v : Weight). v.y) g) t.y k.y ∙ sym (ap (λ (v : Weight). v.y) (until_more xs n l))) ∙ back_of (weight_until xs (n + 1)).y (omega (arith, u.y));
     }
 
 pub stored_until : (xs : List Omega) (n : ℕ) (x y : ℤ) → length xs ≤ n → (total_weight (map omega_value xs)).x <ℤ pos (2 ^ 122) → x ≡ (weight_until xs n).x → y ≡ (weight_until xs n).y → record { x = x; y = y } ≡ total_weight (map omega_value xs)
@@ -162,5 +145,5 @@ sum_within vs w e h = within_sum vs (subst (λ (t : Weight). t.x <ℤ pos (2 ^ 1
 pub real_of : (vs : List Coefficient) (w : Weight) → w ≡ total_weight vs → IsReal w
 real_of vs w e = subst IsReal (sym e) (real_sum vs)
 
-pub small_of : (vs : List Coefficient) (w : Weight) → w ≡ total_weight vs → w.x <ℤ pos (2 ^ 122) → (unsigned_abs w.x < 2 ^ 122) × (unsigned_abs w.y < 2 ^ 122)
+pub small_of : (vs : List Coefficient) (w : Weight) → w ≡ total_weight vs → w.x <ℤ pos (2 ^ 122) → PartsBelow (2 ^ 122) w
 small_of vs w e h = real_small w (real_of vs w e) h

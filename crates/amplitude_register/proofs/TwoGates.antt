@@ -15,7 +15,7 @@ use Rattle.omega_ring.specs.Views.{omega_value}
 use Rattle.omega_ring.specs.Range.{CoordinatesBelow}
 use Rattle.omega_ring.specs.declared.coefficients.Omega.{Omega}
 use Rattle.amplitude_register.specs.Multiples.{HasPlace}
-use Rattle.amplitude_register.proofs.Entries.{zero_omega, at_map, at_past}
+use Rattle.omega_ring.proofs.Entries.{zero_omega, at_map, at_past}
 use Rattle.amplitude_register.proofs.Written.{read}
 use Rattle.amplitude_register.proofs.RowPairs.{value_at, pair_inside, pair_outside, low_of, low_of_high, high_other}
 

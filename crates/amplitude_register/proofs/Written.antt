@@ -13,7 +13,7 @@ use Rattle.state_model.proofs.GateLists.{sum_entry, difference_entry, turned_low
 use Rattle.omega_ring.specs.Views.{omega_value}
 use Rattle.omega_ring.specs.declared.coefficients.Omega.{Omega}
 use Rattle.amplitude_register.specs.Multiples.{HasPlace}
-use Rattle.amplitude_register.proofs.Entries.{zero_omega, at_map, at_past}
+use Rattle.omega_ring.proofs.Entries.{zero_omega, at_map, at_past}
 use Rattle.amplitude_register.proofs.RowPairs.{value_at, power_small, pair_outside}
 
 -- ---- the code's bits

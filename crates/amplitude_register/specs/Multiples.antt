@@ -1,16 +1,8 @@
 -- Lists of coefficients: sizes of their coordinates, multiples entry by entry, and places of a row.
-use Rattle.std.specs.Prelude.{◌≡◌, ℕ, pos, neg_ℤ, ◌<◌, ◌^◌, List, length}
-use Rattle.state_model.specs.Coefficient.{Coefficient, coefficient, ◌⊗◌}
+use Rattle.std.specs.Prelude.{◌≡◌, ℕ, ◌<◌, ◌≤◌, ◌^◌, List, length}
+use Rattle.state_model.specs.Coefficient.{Coefficient, ◌⊗◌}
 use Rattle.state_model.specs.CoefficientList.{at, IsReduced, IsScaled}
 use Rattle.omega_ring.specs.Range.{CoordinatesBelow}
-
--- 1 + w, whose weight is that of 1 - w with the other sign before √2
-abbrev pub delta_conjugate : Coefficient
-delta_conjugate = coefficient (pos 1) (pos 1) (pos 0) (pos 0)
-
--- (1 - w) (1 + w), whose weight is 2
-abbrev pub both_deltas : Coefficient
-both_deltas = coefficient (pos 1) (pos 0) (neg_ℤ (pos 1)) (pos 0)
 
 -- all coordinates of all entries lie strictly between -n and n
 abbrev pub AllWithin : ℕ → List Coefficient → Type 0
@@ -26,8 +18,9 @@ pub record IsReducedFrom (vs us : List Coefficient) : Type 0 where
   pub scaled : IsScaled us vs
   pub reduced : IsReduced us
 
--- so many rows are those of some number of qubits, of which one is at the place
+-- so many rows are those of some number of qubits, at most 12, of which one is at the place
 pub record HasPlace (place rows : ℕ) : Type 0 where
   pub qubits : ℕ
+  pub few : qubits ≤ 12
   pub inside : place < qubits
   pub count : rows ≡ 2 ^ qubits

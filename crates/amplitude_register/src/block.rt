@@ -1,15 +1,17 @@
 //! What a register is made of.
-ghost use Rattle.std.specs.Prelude.{◌≡◌, ◌<◌, ◌^◌, unsigned_abs};
+ghost use Rattle.std.specs.Prelude.{◌≡◌, ◌^◌};
 ghost use Rattle.state_model.specs.Coefficient.{scaled};
 ghost use Rattle.omega_ring.specs.Views.{weight_value};
+ghost use Rattle.omega_ring.specs.Range.{PartsBelow};
 ghost use Rattle.amplitude_register.specs.declared.block.Stage.TheVariants.{Weighed};
 
 use omega_ring::{Omega, Weight};
+use state_model::REGISTER_QUBITS;
 
 /// Qubit numbers and a coefficient for each row, at the front of a buffer, and the weight of all rows.
 #[derive(Drop)]
 pub(crate) struct Block {
-    pub(crate) qubits: [u8; 12],
+    pub(crate) qubits: [u8; REGISTER_QUBITS],
     pub(crate) count: u8,
     pub(crate) rows: usize,
     pub(crate) weight: Weight,
@@ -43,24 +45,11 @@ pub(crate) enum Stage {
 
 /// Twice the weight, where it is known.
 pub(crate) fn next_weight(stage: Stage, weight: Weight) -> Weight
-    requires x { stage ≡ Weighed → unsigned_abs weight.x < 2 ^ 122 }
-    requires y { stage ≡ Weighed → unsigned_abs weight.y < 2 ^ 122 }
+    requires { stage ≡ Weighed → PartsBelow (2 ^ 122) (weight_value weight) }
     ensures { stage ≡ Weighed → weight_value result ≡ scaled 2 (weight_value weight) }
 {
     match stage {
-        Stage::Weighed => double(weight),
+        Stage::Weighed => weight.doubled(),
         _ => weight,
-    }
-}
-
-/// Twice the weight.
-pub(crate) fn double(weight: Weight) -> Weight
-    requires x { unsigned_abs weight.x < 2 ^ 122 }
-    requires y { unsigned_abs weight.y < 2 ^ 122 }
-    ensures { weight_value result ≡ scaled 2 (weight_value weight) }
-{
-    Weight {
-        x: 2 * weight.x,
-        y: 2 * weight.y,
     }
 }

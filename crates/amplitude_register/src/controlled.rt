@@ -7,7 +7,6 @@ ghost use Rattle.omega_ring.specs.Views.{omega_values};
 ghost use Rattle.amplitude_register.specs.Multiples.{AllWithin, HasPlace};
 
 use crate::rows::{has_bit, with_high_bit};
-use crate::scalars::opposite;
 use omega_ring::Omega;
 
 /// Whether the row's bit at the control is 1, and that at the target 0.
@@ -32,7 +31,6 @@ pub(crate) fn has_both(row: usize, one: u8, two: u8) -> bool
 fn exchange_where(list: &mut [Omega], control: u8, target: u8)
     requires apart { control ≢ target }
     requires low { control < 12 }
-    requires high { target < 12 }
     requires place { HasPlace target (length list.old) }
     ensures { IsTwoGateList Cnot control target (omega_values list.old) (omega_values list.new) }
 {
@@ -55,7 +53,7 @@ fn negate_where(list: &mut [Omega], one: u8, two: u8)
 {
     for row in 0..list.len() {
         if has_both(row, one, two) {
-            list[row] = opposite(list[row]);
+            list[row] = list[row].negated();
         }
     }
 }
@@ -65,7 +63,6 @@ fn exchange_where_part(list: &mut [Omega], rows: usize, control: u8, target: u8)
     requires apart { control ≢ target }
     requires rows { rows ≤ length list.old }
     requires low { control < 12 }
-    requires high { target < 12 }
     requires place { HasPlace target rows }
     ensures { IsTwoGateList Cnot control target (omega_values (take rows list.old)) (omega_values (take rows list.new)) }
 {
@@ -88,7 +85,6 @@ pub(crate) fn exchange_where_front(entries: &mut Vec<Omega>, rows: usize, contro
     requires apart { control ≢ target }
     requires rows { rows ≤ length entries.old.items }
     requires low { control < 12 }
-    requires high { target < 12 }
     requires place { HasPlace target rows }
     ensures room { length entries.new.items ≡ length entries.old.items }
     ensures list { IsTwoGateList Cnot control target (omega_values (take rows entries.old.items)) (omega_values (take rows entries.new.items)) }

@@ -1,16 +1,11 @@
 //! Division of all entries by 1 - w^2 where that goes, and then by its factor 1 - w or 1 + w, by that which does not
 //! raise the sum of squares.
-ghost use Rattle.std.specs.Prelude.{◌≡◌, ◌<◌, ◌^◌, unsigned_abs, ◌-ℤ◌, ◌≤ℤ◌, ◌<ℤ◌, pos, IsTrue, ◌↔◌};
-ghost use Rattle.state_model.specs.Coefficient.{scaled};
-ghost use Rattle.state_model.specs.Divisors.{delta, weight_product};
-ghost use Rattle.state_model.specs.Quotients.{IsEven};
+ghost use Rattle.std.specs.Prelude.{◌≡◌, ◌^◌, ◌≤ℤ◌, ◌<ℤ◌, pos, IsTrue, ◌↔◌};
+ghost use Rattle.state_model.specs.Divisors.{delta, delta_conjugate, both_deltas};
 ghost use Rattle.state_model.specs.CoefficientList.{DividesAll, IsScaled, IsNonzero, total_weight};
 ghost use Rattle.omega_ring.specs.Views.{omega_values, weight_value};
-ghost use Rattle.amplitude_register.specs.Multiples.{delta_conjugate, both_deltas, AllWithin, AreTimes};
+ghost use Rattle.amplitude_register.specs.Multiples.{AllWithin, AreTimes};
 
-use crate::scalars::{
-    half_of_wide, is_divisible, is_divisible_by_both, over_both, over_conjugate, over_delta,
-};
 use omega_ring::{Omega, Weight};
 
 /// Whether 1 - w divides each entry.
@@ -19,7 +14,7 @@ pub(crate) fn all_divisible(list: &[Omega]) -> bool
     ensures { IsTrue result ↔ DividesAll delta (omega_values list.now) }
 {
     for z in list {
-        if !is_divisible(*z) {
+        if !z.delta_divides() {
             return false;
         }
     }
@@ -32,7 +27,7 @@ pub(crate) fn all_divisible_by_both(list: &[Omega]) -> bool
     ensures { IsTrue result → DividesAll both_deltas (omega_values list.now) }
 {
     for z in list {
-        if !is_divisible_by_both(*z) {
+        if !z.both_divide() {
             return false;
         }
     }
@@ -46,7 +41,7 @@ pub(crate) fn divide_by_both(list: &mut [Omega])
     ensures { AreTimes (omega_values list.old) (omega_values list.new) both_deltas }
 {
     for z in list.iter_mut() {
-        *z = over_both(*z);
+        *z = z.over_both();
     }
 }
 
@@ -57,7 +52,7 @@ pub(crate) fn divide_by_delta(list: &mut [Omega])
     ensures { AreTimes (omega_values list.old) (omega_values list.new) delta }
 {
     for z in list.iter_mut() {
-        *z = over_delta(*z);
+        *z = z.over_delta();
     }
 }
 
@@ -68,49 +63,7 @@ pub(crate) fn divide_by_conjugate(list: &mut [Omega])
     ensures { AreTimes (omega_values list.old) (omega_values list.new) delta_conjugate }
 {
     for z in list.iter_mut() {
-        *z = over_conjugate(*z);
-    }
-}
-
-/// The weight over that of 1 - w^2.
-pub(crate) fn halved(weight: Weight) -> Weight
-    requires wide { unsigned_abs weight.x < 2 ^ 122 }
-    requires high { unsigned_abs weight.y < 2 ^ 122 }
-    requires x { IsEven weight.x }
-    requires y { IsEven weight.y }
-    ensures { weight_value weight ≡ weight_product (weight_value result) record { x = pos 2; y = pos 0 } }
-{
-    Weight {
-        x: half_of_wide(weight.x),
-        y: half_of_wide(weight.y),
-    }
-}
-
-/// The weight over that of 1 + w.
-pub(crate) fn lower_half(weight: Weight) -> Weight
-    requires small { weight.x <ℤ pos (2 ^ 122) }
-    requires sign { pos 0 ≤ℤ weight.y }
-    requires order { weight.y ≤ℤ weight.x }
-    requires even { IsEven weight.x }
-    ensures { weight_value weight ≡ weight_product (weight_value result) record { x = pos 2; y = pos 1 } }
-{
-    Weight {
-        x: weight.x - weight.y,
-        y: weight.y - half_of_wide(weight.x),
-    }
-}
-
-/// The weight over that of 1 - w.
-pub(crate) fn upper_half(weight: Weight) -> Weight
-    requires small { weight.x <ℤ pos (2 ^ 122) }
-    requires sign { weight.y ≤ℤ pos 0 }
-    requires order { (pos 0 -ℤ weight.y) ≤ℤ weight.x }
-    requires even { IsEven weight.x }
-    ensures { weight_value weight ≡ weight_product (weight_value result) record { x = pos 2; y = pos 0 -ℤ pos 1 } }
-{
-    Weight {
-        x: weight.x + weight.y,
-        y: weight.y + half_of_wide(weight.x),
+        *z = z.over_conjugate();
     }
 }
 
@@ -126,14 +79,14 @@ pub(crate) fn divide_out(list: &mut [Omega], weight: Weight) -> Weight
 {
     if all_divisible_by_both(list) {
         divide_by_both(list);
-        divide_out(list, halved(weight))
+        divide_out(list, weight.over_both())
     } else if !all_divisible(list) {
         weight
     } else if weight.y > 0 {
         divide_by_conjugate(list);
-        divide_out(list, lower_half(weight))
+        divide_out(list, weight.over_conjugate())
     } else {
         divide_by_delta(list);
-        divide_out(list, upper_half(weight))
+        divide_out(list, weight.over_delta())
     }
 }

@@ -5,7 +5,7 @@ ghost use Rattle.state_model.specs.declared.Gate.TheVariants.{H, RotZ};
 ghost use Rattle.state_model.specs.declared.Two.TheVariants.{Cnot, Cphase};
 ghost use Rattle.amplitude_register.specs.States.{draft, prepared, IsGateStep, IsTwoGateStep};
 
-use crate::block::{Stage, double};
+use crate::block::Stage;
 use crate::register::Register;
 use crate::{passes, two_passes};
 
@@ -15,9 +15,8 @@ impl Register {
         requires { place < length self.old.value.qubits }
         ensures { IsGateStep (matrix H) place 2 (record self.old { next = draft self.old.value }) self.new }
     {
-        let _limit = self.limit;
         self.next.take_head(&self.value);
-        self.next.weight = double(self.value.weight);
+        self.next.weight = self.value.weight.doubled();
         passes::mix_front_into(
             &mut self.next.entries,
             &self.value.entries,
@@ -33,7 +32,6 @@ impl Register {
         requires eighths { eighths < 8 }
         ensures { IsGateStep (matrix (RotZ eighths)) place 1 (record self.old { next = prepared self.old.value }) self.new }
     {
-        let _limit = self.limit;
         self.next.take_head(&self.value);
         passes::turn_front_into(
             &mut self.next.entries,
@@ -52,7 +50,6 @@ impl Register {
         requires target { target < length self.old.value.qubits }
         ensures { IsTwoGateStep Cnot control target (record self.old { next = prepared self.old.value }) self.new }
     {
-        let _limit = self.limit;
         self.next.take_head(&self.value);
         two_passes::exchange_where_front_into(
             &mut self.next.entries,
@@ -71,7 +68,6 @@ impl Register {
         requires two { two < length self.old.value.qubits }
         ensures { IsTwoGateStep Cphase one two (record self.old { next = prepared self.old.value }) self.new }
     {
-        let _limit = self.limit;
         self.next.take_head(&self.value);
         two_passes::negate_where_front_into(
             &mut self.next.entries,

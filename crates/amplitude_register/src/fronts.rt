@@ -4,7 +4,8 @@ ghost use Rattle.state_model.specs.Coefficient.{zero_coefficient, one_coefficien
 ghost use Rattle.state_model.specs.Row.{is_listed};
 ghost use Rattle.omega_ring.specs.Views.{omega_values};
 
-use omega_ring::Omega;
+use omega_ring::{Omega, coefficient};
+use state_model::REGISTER_QUBITS;
 
 /// Writes zeros at the front of a list.
 pub(crate) fn clear_part(list: &mut [Omega], rows: usize)
@@ -43,7 +44,7 @@ pub(crate) fn copy_front(entries: &mut Vec<Omega>, from: &Vec<Omega>, rows: usiz
 }
 
 /// The numbers at the front of the list of a block.
-pub(crate) fn write_numbers(into: &mut [u8; 12], numbers: &[u8])
+pub(crate) fn write_numbers(into: &mut [u8; REGISTER_QUBITS], numbers: &[u8])
     requires { length numbers.now ≤ 12 }
     ensures written { take (length numbers.now) into.new ≡ numbers.now }
     ensures room { length into.new ≡ 12 }
@@ -59,19 +60,11 @@ pub(crate) fn rows_of(count: usize) -> usize
     1 << count
 }
 
-pub(crate) const ZERO: Omega = Omega {
-    a: 0,
-    b: 0,
-    c: 0,
-    d: 0,
-};
+/// No amplitude.
+pub(crate) const ZERO: Omega = coefficient!(0, 0, 0, 0);
 
-pub(crate) const ONE: Omega = Omega {
-    a: 1,
-    b: 0,
-    c: 0,
-    d: 0,
-};
+/// The amplitude 1.
+pub(crate) const ONE: Omega = coefficient!(1, 0, 0, 0);
 
 /// Writes a 1 at the front of a buffer.
 pub(crate) fn write_one(entries: &mut Vec<Omega>)
@@ -98,7 +91,7 @@ pub(crate) fn write_basis(entries: &mut Vec<Omega>, bit: bool)
 }
 
 /// Writes the number at the front.
-pub(crate) fn write_number(into: &mut [u8; 12], q: u8)
+pub(crate) fn write_number(into: &mut [u8; REGISTER_QUBITS], q: u8)
     ensures written { take 1 into.new ≡ q ∷ [] }
     ensures room { length into.new ≡ 12 }
 {
@@ -106,7 +99,7 @@ pub(crate) fn write_number(into: &mut [u8; 12], q: u8)
 }
 
 /// Writes two numbers at the front.
-pub(crate) fn write_two(into: &mut [u8; 12], p: u8, q: u8)
+pub(crate) fn write_two(into: &mut [u8; REGISTER_QUBITS], p: u8, q: u8)
     ensures written { take 2 into.new ≡ p ∷ q ∷ [] }
     ensures room { length into.new ≡ 12 }
 {

@@ -13,9 +13,9 @@ mod normal;
 mod passes;
 mod register;
 mod rows;
-mod scalars;
 #[cfg(test)]
 mod tests;
 mod two_passes;
 
 pub use register::{Reduce, Register, TooLarge};
+pub use rows::has_bit;

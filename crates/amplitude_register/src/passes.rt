@@ -8,33 +8,30 @@ ghost use Rattle.state_model.specs.Amplitudes.{IsGateList, IsGateRow};
 ghost use Rattle.omega_ring.specs.Views.{omega_value, omega_values};
 ghost use Rattle.amplitude_register.specs.Multiples.{AllWithin, HasPlace};
 
-use crate::rows::{has_bit, less, plus, with_high_bit};
+use crate::rows::{has_bit, with_high_bit};
 use omega_ring::Omega;
 
 /// Of so many rows, the one with the row's bit at the place 0.
 fn with_low_bit(rows: usize, row: usize, place: u8) -> usize
-    requires low { place < 12 }
     requires place { HasPlace place rows }
     requires row { row < rows }
     ensures value { result ≡ with_bit place false row }
     ensures inside { result < rows }
 {
-    let _rows = rows;
     (row | (1 << place)) ^ (1 << place)
 }
 
 /// The sum or the difference that a Hadamard gives a row.
 fn mixed(from: &[Omega], row: usize, place: u8) -> Omega
-    requires low { place < 12 }
     requires place { HasPlace place (length from.now) }
     requires row { row < length from.now }
     requires range { AllWithin (2 ^ 61) (omega_values from.now) }
     ensures { IsGateRow (matrix H) place (omega_values from.now) row (omega_value result) }
 {
     if has_bit(row, place) {
-        less(from[with_low_bit(from.len(), row, place)], from[row])
+        from[with_low_bit(from.len(), row, place)].minus(from[row])
     } else {
-        plus(from[row], from[with_high_bit(from.len(), row, place)])
+        from[row].plus(from[with_high_bit(from.len(), row, place)])
     }
 }
 
@@ -56,7 +53,6 @@ fn turned(from: &[Omega], row: usize, place: u8, eighths: u8) -> Omega
 /// Writes the sum and the difference of each pair of rows.
 fn mix_into(list: &mut [Omega], from: &[Omega], place: u8)
     requires same { length list.old ≡ length from.now }
-    requires low { place < 12 }
     requires place { HasPlace place (length from.now) }
     requires range { AllWithin (2 ^ 61) (omega_values from.now) }
     ensures { IsGateList (matrix H) place (omega_values from.now) (omega_values list.new) }
@@ -69,7 +65,6 @@ fn mix_into(list: &mut [Omega], from: &[Omega], place: u8)
 /// Writes the rows, those turned whose bit is 1.
 fn turn_into(list: &mut [Omega], from: &[Omega], place: u8, eighths: u8)
     requires same { length list.old ≡ length from.now }
-    requires low { place < 12 }
     requires eighths { eighths < 8 }
     requires place { HasPlace place (length from.now) }
     requires range { AllWithin (2 ^ 61) (omega_values from.now) }
@@ -84,7 +79,6 @@ fn turn_into(list: &mut [Omega], from: &[Omega], place: u8, eighths: u8)
 fn mix_into_part(list: &mut [Omega], from: &[Omega], rows: usize, place: u8)
     requires to { rows ≤ length list.old }
     requires from { rows ≤ length from.now }
-    requires low { place < 12 }
     requires place { HasPlace place rows }
     requires range { AllWithin (2 ^ 61) (omega_values (take rows from.now)) }
     ensures { IsGateList (matrix H) place (omega_values (take rows from.now)) (omega_values (take rows list.new)) }
@@ -96,7 +90,6 @@ fn mix_into_part(list: &mut [Omega], from: &[Omega], rows: usize, place: u8)
 fn turn_into_part(list: &mut [Omega], from: &[Omega], rows: usize, place: u8, eighths: u8)
     requires to { rows ≤ length list.old }
     requires from { rows ≤ length from.now }
-    requires low { place < 12 }
     requires eighths { eighths < 8 }
     requires place { HasPlace place rows }
     requires range { AllWithin (2 ^ 61) (omega_values (take rows from.now)) }
@@ -109,7 +102,6 @@ fn turn_into_part(list: &mut [Omega], from: &[Omega], rows: usize, place: u8, ei
 pub(crate) fn mix_front_into(entries: &mut Vec<Omega>, from: &Vec<Omega>, rows: usize, place: u8)
     requires to { rows ≤ length entries.old.items }
     requires from { rows ≤ length from.now.items }
-    requires low { place < 12 }
     requires place { HasPlace place rows }
     requires range { AllWithin (2 ^ 61) (omega_values (take rows from.now.items)) }
     ensures room { length entries.new.items ≡ length entries.old.items }
@@ -128,7 +120,6 @@ pub(crate) fn turn_front_into(
 )
     requires to { rows ≤ length entries.old.items }
     requires from { rows ≤ length from.now.items }
-    requires low { place < 12 }
     requires eighths { eighths < 8 }
     requires place { HasPlace place rows }
     requires range { AllWithin (2 ^ 61) (omega_values (take rows from.now.items)) }

@@ -14,9 +14,9 @@ ghost use Rattle.amplitude_register.specs.Multiples.{IsReducedFrom};
 ghost use Rattle.amplitude_register.specs.States.{RegisterState, empty, draft, prepared, no_qubit, basis_state, pair_state, zeros, IsDraft, IsPrepared, IsPresent, IsNextKept, next_value, prepared_qubits, with_list, with_row, IsKept, IsGateStep, IsTwoGateStep, IsSealed, IsRefused, CanReduce};
 
 use crate::block::{Block, Stage, next_weight};
-use crate::scalars::opposite;
 use crate::{common, controlled, fronts, normal, rows};
 use omega_ring::{Omega, Weight};
+use state_model::{REGISTER_QUBITS, SIZE_LIMIT};
 use std::alloc::{AllocError, Global};
 use std::marker::Model;
 
@@ -48,6 +48,7 @@ impl Model for Register {
 /// A least size, the sum of squares of all coordinates, of 2^60 or more.
 #[derive(Clone, Copy, PartialEq, Eq, Debug, Drop)]
 pub struct TooLarge {
+    /// The least size.
     pub size: i128,
 }
 
@@ -59,9 +60,6 @@ pub enum Reduce {
     /// A greatest common divisor, of a draft whose sum of squares is below 2^60.
     Full,
 }
-
-/// All sizes are below this.
-const SIZES: i128 = 1 << 60;
 
 impl Register {
     /// A register of at most `limit` qubits (1 to 12). It has no qubit, and the one coefficient 1.
@@ -77,14 +75,14 @@ impl Register {
         Ok(Register {
             limit,
             value: Block {
-                qubits: [0; 12],
+                qubits: [0; REGISTER_QUBITS],
                 count: 0,
                 rows: 1,
                 weight: ONE,
                 entries: one,
             },
             next: Block {
-                qubits: [0; 12],
+                qubits: [0; REGISTER_QUBITS],
                 count: 0,
                 rows: 1,
                 weight: ONE,
@@ -118,6 +116,14 @@ impl Register {
         self.value.weight
     }
 
+    /// The number of the value's rows.
+    pub fn row_count(&self) -> u16
+        ensures rows { result ≡ length self.now.value.list }
+        ensures qubits { result ≡ 2 ^ length self.now.value.qubits }
+    {
+        self.value.rows as u16
+    }
+
     /// The most qubits that it may have.
     pub fn limit(&self) -> u8
         ensures { result ≡ self.now.limit }
@@ -125,7 +131,8 @@ impl Register {
         self.limit
     }
 
-    /// What every register keeps.
+    /// What every register keeps: a reduced, balanced and small value with a row for each setting of its qubits'
+    /// bits, of which there are at most `limit` and 12, and what holds of its next value.
     pub fn facts(&self)
         ensures kept { IsKept self.now.value }
         ensures rows { HasRows self.now.value }
@@ -168,7 +175,6 @@ impl Register {
         requires room { 2 ≤ self.old.limit }
         ensures { self.new ≡ record self.old { value = pair_state p q } }
     {
-        let _limit = self.limit;
         fronts::write_two(&mut self.value.qubits, p, q);
         fronts::write_pair(&mut self.value.entries);
         self.value.count = 2;
@@ -214,7 +220,6 @@ impl Register {
         requires room { 2 ≤ self.old.limit }
         ensures { self.new ≡ record self.old { next = prepared (pair_state p q) } }
     {
-        let _limit = self.limit;
         fronts::write_two(&mut self.next.qubits, p, q);
         fronts::write_pair(&mut self.next.entries);
         self.next.count = 2;
@@ -240,7 +245,7 @@ impl Register {
         requires few { length qubits.now ≤ self.old.limit }
         ensures { self.new ≡ record self.old { next = draft (zeros qubits.now) } }
     {
-        let _limit = self.limit;
+        self.facts();
         let rows = fronts::rows_of(qubits.len());
         fronts::write_numbers(&mut self.next.qubits, qubits);
         fronts::clear_front(&mut self.next.entries, rows);
@@ -286,7 +291,6 @@ impl Register {
         requires small { (total_weight (next_value self.old.next).list).x <ℤ pos (2 ^ 121) }
         ensures { IsGateStep (matrix H) place 2 self.old self.new }
     {
-        let _limit = self.limit;
         rows::mix_front(&mut self.next.entries, self.next.rows, place);
         self.next.weight = next_weight(self.stage, self.next.weight);
     }
@@ -300,7 +304,6 @@ impl Register {
         requires small { (total_weight (next_value self.old.next).list).x <ℤ pos (2 ^ 122) }
         ensures { IsGateStep (matrix (RotZ eighths)) place 1 self.old self.new }
     {
-        let _limit = self.limit;
         rows::turn_front(&mut self.next.entries, self.next.rows, place, eighths);
     }
 
@@ -311,7 +314,6 @@ impl Register {
         requires place { place < length (next_value self.old.next).qubits }
         ensures { IsGateStep (matrix X) place 1 self.old self.new }
     {
-        let _limit = self.limit;
         rows::exchange_front(&mut self.next.entries, self.next.rows, place);
     }
 
@@ -324,7 +326,6 @@ impl Register {
         requires target { target < length (next_value self.old.next).qubits }
         ensures { IsTwoGateStep Cnot control target self.old self.new }
     {
-        let _limit = self.limit;
         controlled::exchange_where_front(&mut self.next.entries, self.next.rows, control, target);
     }
 
@@ -336,7 +337,6 @@ impl Register {
         requires two { two < length (next_value self.old.next).qubits }
         ensures { IsTwoGateStep Cphase one two self.old self.new }
     {
-        let _limit = self.limit;
         controlled::negate_where_front(&mut self.next.entries, self.next.rows, one, two);
     }
 
@@ -383,7 +383,7 @@ impl Register {
     {
         let weight = self.draft_weight();
         self.next.weight = normal::normalize_front(&mut self.next.entries, self.next.rows, weight);
-        if self.next.weight.x < SIZES {
+        if self.next.weight.x < SIZE_LIMIT {
             self.stage = Stage::Prepared;
             Ok(())
         } else {
@@ -423,7 +423,7 @@ impl Register {
         requires row { row < length (next_value self.old.next).list }
         ensures { self.new ≡ record self.old { next = prepared (with_row (next_value self.old.next) row (negated (at (next_value self.old.next).list row))) } }
     {
-        self.next.entries[row as usize] = opposite(self.next.entries[row as usize]);
+        self.next.entries[row as usize] = self.next.entries[row as usize].negated();
     }
 
     /// The prepared value becomes the register's, and none is prepared.

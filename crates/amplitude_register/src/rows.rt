@@ -1,18 +1,16 @@
 //! Gates on the rows of a list, in pairs that differ in the bit at one place.
 ghost use Rattle.std.specs.Prelude.{◌≡◌, ◌<◌, ◌≤◌, ◌^◌, true, length, take};
-ghost use Rattle.state_model.specs.Coefficient.{◌⊕◌, ◌⊖◌};
 ghost use Rattle.state_model.specs.Row.{is_set, with_bit};
 ghost use Rattle.state_model.specs.Gate.{matrix};
 ghost use Rattle.state_model.specs.declared.Gate.TheVariants.{H, X, RotZ};
 ghost use Rattle.state_model.specs.Amplitudes.{IsGateList};
-ghost use Rattle.omega_ring.specs.Views.{omega_value, omega_values};
-ghost use Rattle.omega_ring.specs.Range.{CoordinatesBelow};
+ghost use Rattle.omega_ring.specs.Views.{omega_values};
 ghost use Rattle.amplitude_register.specs.Multiples.{AllWithin, HasPlace};
 
 use omega_ring::Omega;
 
 /// Whether the row's bit at the place is 1.
-pub(crate) fn has_bit(row: usize, place: u8) -> bool
+pub fn has_bit(row: usize, place: u8) -> bool
     requires { place < 12 }
     ensures { result ≡ is_set place row }
 {
@@ -21,47 +19,16 @@ pub(crate) fn has_bit(row: usize, place: u8) -> bool
 
 /// Of so many rows, the one with the row's bit at the place 1.
 pub(crate) fn with_high_bit(rows: usize, row: usize, place: u8) -> usize
-    requires low { place < 12 }
     requires place { HasPlace place rows }
     requires row { row < rows }
     ensures value { result ≡ with_bit place true row }
     ensures inside { result < rows }
 {
-    let _rows = rows;
     row | (1 << place)
-}
-
-/// The sum.
-pub(crate) fn plus(z: Omega, u: Omega) -> Omega
-    requires left { CoordinatesBelow (2 ^ 61) (omega_value z) }
-    requires right { CoordinatesBelow (2 ^ 61) (omega_value u) }
-    ensures { omega_value result ≡ omega_value z ⊕ omega_value u }
-{
-    Omega {
-        a: z.a + u.a,
-        b: z.b + u.b,
-        c: z.c + u.c,
-        d: z.d + u.d,
-    }
-}
-
-/// The difference.
-pub(crate) fn less(z: Omega, u: Omega) -> Omega
-    requires left { CoordinatesBelow (2 ^ 61) (omega_value z) }
-    requires right { CoordinatesBelow (2 ^ 61) (omega_value u) }
-    ensures { omega_value result ≡ omega_value z ⊖ omega_value u }
-{
-    Omega {
-        a: z.a - u.a,
-        b: z.b - u.b,
-        c: z.c - u.c,
-        d: z.d - u.d,
-    }
 }
 
 /// Makes of each pair of rows their sum and their difference.
 fn mix(list: &mut [Omega], place: u8)
-    requires low { place < 12 }
     requires place { HasPlace place (length list.old) }
     requires range { AllWithin (2 ^ 61) (omega_values list.old) }
     ensures { IsGateList (matrix H) place (omega_values list.old) (omega_values list.new) }
@@ -71,15 +38,14 @@ fn mix(list: &mut [Omega], place: u8)
             let high = with_high_bit(list.len(), row, place);
             let zero = list[row];
             let one = list[high];
-            list[row] = plus(zero, one);
-            list[high] = less(zero, one);
+            list[row] = zero.plus(one);
+            list[high] = zero.minus(one);
         }
     }
 }
 
 /// Exchanges the two rows of each pair.
 fn exchange(list: &mut [Omega], place: u8)
-    requires low { place < 12 }
     requires place { HasPlace place (length list.old) }
     ensures { IsGateList (matrix X) place (omega_values list.old) (omega_values list.new) }
 {
@@ -95,7 +61,6 @@ fn exchange(list: &mut [Omega], place: u8)
 
 /// Turns the rows whose bit is 1 by so many eighths.
 fn turn(list: &mut [Omega], place: u8, eighths: u8)
-    requires low { place < 12 }
     requires eighths { eighths < 8 }
     requires place { HasPlace place (length list.old) }
     requires range { AllWithin (2 ^ 61) (omega_values list.old) }
@@ -112,7 +77,6 @@ fn turn(list: &mut [Omega], place: u8, eighths: u8)
 /// As `mix`, at the front of a list.
 fn mix_part(list: &mut [Omega], rows: usize, place: u8)
     requires rows { rows ≤ length list.old }
-    requires low { place < 12 }
     requires place { HasPlace place rows }
     requires range { AllWithin (2 ^ 61) (omega_values (take rows list.old)) }
     ensures { IsGateList (matrix H) place (omega_values (take rows list.old)) (omega_values (take rows list.new)) }
@@ -123,7 +87,6 @@ fn mix_part(list: &mut [Omega], rows: usize, place: u8)
 /// As `exchange`, at the front of a list.
 fn exchange_part(list: &mut [Omega], rows: usize, place: u8)
     requires rows { rows ≤ length list.old }
-    requires low { place < 12 }
     requires place { HasPlace place rows }
     ensures { IsGateList (matrix X) place (omega_values (take rows list.old)) (omega_values (take rows list.new)) }
 {
@@ -133,7 +96,6 @@ fn exchange_part(list: &mut [Omega], rows: usize, place: u8)
 /// As `turn`, at the front of a list.
 fn turn_part(list: &mut [Omega], rows: usize, place: u8, eighths: u8)
     requires rows { rows ≤ length list.old }
-    requires low { place < 12 }
     requires eighths { eighths < 8 }
     requires place { HasPlace place rows }
     requires range { AllWithin (2 ^ 61) (omega_values (take rows list.old)) }
@@ -145,7 +107,6 @@ fn turn_part(list: &mut [Omega], rows: usize, place: u8, eighths: u8)
 /// As `mix`, at the front of a buffer.
 pub(crate) fn mix_front(entries: &mut Vec<Omega>, rows: usize, place: u8)
     requires rows { rows ≤ length entries.old.items }
-    requires low { place < 12 }
     requires place { HasPlace place rows }
     requires range { AllWithin (2 ^ 61) (omega_values (take rows entries.old.items)) }
     ensures room { length entries.new.items ≡ length entries.old.items }
@@ -157,7 +118,6 @@ pub(crate) fn mix_front(entries: &mut Vec<Omega>, rows: usize, place: u8)
 /// As `exchange`, at the front of a buffer.
 pub(crate) fn exchange_front(entries: &mut Vec<Omega>, rows: usize, place: u8)
     requires rows { rows ≤ length entries.old.items }
-    requires low { place < 12 }
     requires place { HasPlace place rows }
     ensures room { length entries.new.items ≡ length entries.old.items }
     ensures list { IsGateList (matrix X) place (omega_values (take rows entries.old.items)) (omega_values (take rows entries.new.items)) }
@@ -168,7 +128,6 @@ pub(crate) fn exchange_front(entries: &mut Vec<Omega>, rows: usize, place: u8)
 /// As `turn`, at the front of a buffer.
 pub(crate) fn turn_front(entries: &mut Vec<Omega>, rows: usize, place: u8, eighths: u8)
     requires rows { rows ≤ length entries.old.items }
-    requires low { place < 12 }
     requires eighths { eighths < 8 }
     requires place { HasPlace place rows }
     requires range { AllWithin (2 ^ 61) (omega_values (take rows entries.old.items)) }

@@ -1,6 +1,6 @@
 //! Worked registers.
 use crate::{Reduce, Register};
-use omega_ring::Omega;
+use omega_ring::coefficient;
 
 #[test]
 fn a_pair_has_two_equal_rows(rt: HostRuntime) {
@@ -29,18 +29,8 @@ fn a_pair_has_two_equal_rows(rt: HostRuntime) {
 #[test]
 fn whole_numbers_are_divided_out(rt: HostRuntime) {
     let mut reg = Register::new(rt.alloc(), 1).expect(&rt, "memory");
-    let three = Omega {
-        a: 3,
-        b: 0,
-        c: 0,
-        d: 0,
-    };
-    let turned = Omega {
-        a: 0,
-        b: 3,
-        c: 0,
-        d: 0,
-    };
+    let three = coefficient!(3, 0, 0, 0);
+    let turned = coefficient!(0, 3, 0, 0);
     reg.begin(&[7]);
     reg.put(0, three);
     reg.put(1, turned);
@@ -56,18 +46,8 @@ fn whole_numbers_are_divided_out(rt: HostRuntime) {
 fn a_factor_of_three_is_divided_out(rt: HostRuntime) {
     // 3 is the second entry times its conjugate
     let mut reg = Register::new(rt.alloc(), 1).expect(&rt, "memory");
-    let three = Omega {
-        a: 3,
-        b: 0,
-        c: 0,
-        d: 0,
-    };
-    let factor = Omega {
-        a: 1,
-        b: 1,
-        c: 0,
-        d: 1,
-    };
+    let three = coefficient!(3, 0, 0, 0);
+    let factor = coefficient!(1, 1, 0, 1);
     reg.begin(&[7]);
     reg.put(0, three);
     reg.put(1, factor);

@@ -9,7 +9,6 @@ ghost use Rattle.amplitude_register.specs.Multiples.{AllWithin, HasPlace};
 use crate::controlled::has_both;
 use crate::fronts::rows_of;
 use crate::rows::has_bit;
-use crate::scalars::opposite;
 use omega_ring::Omega;
 
 /// Runs of 2^5 rows and more are copied faster as slices than row by row.
@@ -18,13 +17,11 @@ const RUN_PLACE: u8 = 5;
 /// Of so many rows, the one with the row's bit at the target turned, where that at the control is 1.
 fn controlled_row(rows: usize, row: usize, control: u8, target: u8) -> usize
     requires low { control < 12 }
-    requires high { target < 12 }
     requires place { HasPlace target rows }
     requires row { row < rows }
     ensures value { result ≡ cond (is_set control row) (turned target row) row }
     ensures inside { result < rows }
 {
-    let _rows = rows;
     if has_bit(row, control) {
         row ^ (1 << target)
     } else {
@@ -41,7 +38,7 @@ fn phased(from: &[Omega], row: usize, one: u8, two: u8) -> Omega
     ensures { IsTwoGateRow Cphase one two (omega_values from.now) row (omega_value result) }
 {
     if has_both(row, one, two) {
-        opposite(from[row])
+        from[row].negated()
     } else {
         from[row]
     }
@@ -60,7 +57,6 @@ fn copy_run(list: &mut [Omega], to: usize, from: &[Omega], start: usize, run: us
 fn exchange_rows_into(list: &mut [Omega], from: &[Omega], control: u8, target: u8)
     requires same { length list.old ≡ length from.now }
     requires low { control < 12 }
-    requires high { target < 12 }
     requires place { HasPlace target (length from.now) }
     ensures { IsTwoGateList Cnot control target (omega_values from.now) (omega_values list.new) }
 {
@@ -73,7 +69,6 @@ fn exchange_rows_into(list: &mut [Omega], from: &[Omega], control: u8, target: u
 fn exchange_runs_into(list: &mut [Omega], from: &[Omega], control: u8, target: u8, place: u8)
     requires same { length list.old ≡ length from.now }
     requires low { control < 12 }
-    requires high { target < 12 }
     requires place { HasPlace target (length from.now) }
     requires under_control { place ≤ control }
     requires under_target { place ≤ target }
@@ -91,7 +86,6 @@ fn exchange_runs_into(list: &mut [Omega], from: &[Omega], control: u8, target: u
 fn exchange_where_into(list: &mut [Omega], from: &[Omega], control: u8, target: u8)
     requires same { length list.old ≡ length from.now }
     requires low { control < 12 }
-    requires high { target < 12 }
     requires place { HasPlace target (length from.now) }
     ensures { IsTwoGateList Cnot control target (omega_values from.now) (omega_values list.new) }
 {
@@ -127,7 +121,6 @@ fn exchange_where_into_part(
     requires to { rows ≤ length list.old }
     requires from { rows ≤ length from.now }
     requires low { control < 12 }
-    requires high { target < 12 }
     requires place { HasPlace target rows }
     ensures { IsTwoGateList Cnot control target (omega_values (take rows from.now)) (omega_values (take rows list.new)) }
 {
@@ -157,7 +150,6 @@ pub(crate) fn exchange_where_front_into(
     requires to { rows ≤ length entries.old.items }
     requires from { rows ≤ length from.now.items }
     requires low { control < 12 }
-    requires high { target < 12 }
     requires place { HasPlace target rows }
     ensures room { length entries.new.items ≡ length entries.old.items }
     ensures list { IsTwoGateList Cnot control target (omega_values (take rows from.now.items)) (omega_values (take rows entries.new.items)) }

@@ -1,6 +1,6 @@
 -- Steps on a register's rows one after another, and what they stand for.
 use Rattle.std.specs.Prelude.{Result, Ok, Err, MatchResult}
-use Rattle.std.proofs.Common.{Bool, true, false, cond, ◌≡◌, ◌≢◌, ℕ, ◌*◌, ◌<◌, ℤ, pos, nat_abs, List, length, refl, sym, ap, subst, ◌∙◌}
+use Rattle.std.proofs.Common.{Bool, true, false, cond, ◌≡◌, ◌≢◌, ◌⊎◌, inl, inr, ℕ, ◌*◌, ◌<◌, ℤ, pos, nat_abs, List, length, refl, sym, ap, subst, ◌∙◌, arith}
 use mathlib.Core.Path.{fun_ext}
 use Rattle.state_model.specs.Row.{is_set, with_bit}
 use Rattle.state_model.proofs.Gates.{with_own_bit}
@@ -9,11 +9,11 @@ use Rattle.state_model.specs.Coefficient.{Coefficient, zero_coefficient, one_coe
 use Rattle.state_model.specs.CoefficientList.{at, total_weight, IsNonzero, HasDeltaDivisors}
 use Rattle.state_model.specs.StateVector.{Vector, IsSameState, IsSize}
 use Rattle.state_model.specs.Gate.{Matrix, matrix, entry, gate}
-use Rattle.state_model.specs.Undo.{product}
+use Rattle.state_model.specs.Undo.{product, scale_of}
 use Rattle.state_model.specs.Registers.{register_vector}
 use Rattle.state_model.specs.Amplitudes.{Amplitudes, vector_of, qubit_at, HasRows, IsGateList}
 use Rattle.state_model.specs.declared.Gate.{Gate}
-use Rattle.state_model.specs.declared.Gate.TheVariants.{I, X, Y, Z, T, RotZ}
+use Rattle.state_model.specs.declared.Gate.TheVariants.{I, X, Y, Z, T, H, K, RotX, RotY, RotZ}
 use Rattle.state_model.proofs.Integers.{mul_assoc_ℤ}
 use Rattle.state_model.proofs.Draws.{same_weight}
 use Rattle.state_model.proofs.Domain.{⊗-domain, ⊗-zero_coefficient}
@@ -147,3 +147,22 @@ pub sealed_answer : {A E : Type 0} (size : E → ℤ) (g h : Gate) (s place : �
     → MatchResult r (λ (x : A). IsSealed mid new) (λ (e : E). IsRefused mid new (size e)) → MatchResult r (λ (x : A). IsApplied g place old new) (λ (e : E). IsTooLarge g place old new (size e))
 sealed_answer size g h s place old mid new (Ok x) is rows l made seal = subst (λ (t : Gate). IsApplied t place old new) (sym is) (sealed_applied h s place old mid new rows l made seal)
 sealed_answer size g h s place old mid new (Err e) is rows l made seal = subst (λ (t : Gate). IsTooLarge t place old new (size e)) (sym is) (refused_large h s place old mid new (size e) rows l made seal)
+
+-- ---- gates that only move, negate or turn rows
+pub moved_scale : (g : Gate) → (g ≡ I) ⊎ ((g ≡ X) ⊎ ((g ≡ Y) ⊎ ((g ≡ Z) ⊎ ((g ≡ T) ⊎ ((k : ℕ) × (g ≡ RotZ k)))))) → scale_of g ≡ 1
+unfolding scale_of
+moved_scale g (inl e) = ap scale_of e
+moved_scale g (inr (inl e)) = ap scale_of e
+moved_scale g (inr (inr (inl e))) = ap scale_of e
+moved_scale g (inr (inr (inr (inl e)))) = ap scale_of e
+moved_scale g (inr (inr (inr (inr (inl e))))) = ap scale_of e
+moved_scale g (inr (inr (inr (inr (inr h))))) = ap scale_of (h.1)
+
+-- a copy is what the one of them that changes nothing makes
+pub copied : (g : Gate) (place : ℕ) (old new : RegisterState) → (g ≡ I) ⊎ ((g ≡ H) ⊎ ((g ≡ K) ⊎ (((k : ℕ) × (g ≡ RotX k)) ⊎ ((k : ℕ) × (g ≡ RotY k))))) → IsApplied I place old new → scale_of g ≡ 1 → IsApplied g place old new
+unfolding scale_of
+copied g place old new (inl e) h s = subst (λ (t : Gate). IsApplied t place old new) (sym e) h
+copied g place old new (inr (inl e)) h s = absurd (let f : 2 ≡ 1 = sym (ap scale_of e) ∙ s in omega arith)
+copied g place old new (inr (inr (inl e))) h s = absurd (let f : 2 ≡ 1 = sym (ap scale_of e) ∙ s in omega arith)
+copied g place old new (inr (inr (inr (inl e)))) h s = absurd (let f : 4 ≡ 1 = sym (ap scale_of (e.1)) ∙ s in omega arith)
+copied g place old new (inr (inr (inr (inr e)))) h s = absurd (let f : 4 ≡ 1 = sym (ap scale_of (e.1)) ∙ s in omega arith)

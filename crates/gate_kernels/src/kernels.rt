@@ -1,8 +1,8 @@
 //! Gates by steps on the rows of a register: rows are exchanged, turned by eighths, or made into their sum and
 //! difference. The other gates are such steps one after another, and are reduced and balanced once at the end.
-ghost use Rattle.std.specs.Prelude.{◌<◌, length, MatchResult};
+ghost use Rattle.std.specs.Prelude.{◌≡◌, ◌<◌, length, MatchResult};
 ghost use Rattle.state_model.specs.Gate.{matrix};
-ghost use Rattle.state_model.specs.Undo.{product};
+ghost use Rattle.state_model.specs.Undo.{product, scale_of};
 ghost use Rattle.state_model.specs.declared.Gate.TheVariants.{X, H, K, RotX, RotY, RotZ};
 ghost use Rattle.amplitude_register.specs.States.{IsNextKept};
 ghost use Rattle.gate_kernels.specs.Gates.{HasEighths, IsApplied, IsTooLarge, IsMade, drafting, preparing};
@@ -10,11 +10,16 @@ ghost use Rattle.gate_kernels.specs.Gates.{HasEighths, IsApplied, IsTooLarge, Is
 use amplitude_register::{Reduce, Register, TooLarge};
 use state_model::Gate;
 
-/// The eighths of the imaginary unit, of -1 and of the inverse of the imaginary unit.
+/// An eighth of a turn.
+const EIGHTH: u8 = 1;
+
+/// The eighths of a quarter of a turn, to the imaginary unit.
 const QUARTER: u8 = 2;
 
+/// The eighths of half a turn, to -1.
 const HALF: u8 = 4;
 
+/// The eighths of a quarter of a turn back, to the inverse of the imaginary unit.
 const BACK: u8 = 6;
 
 /// Prepares what a gate makes of the register's value, on the qubit at a place; eighths are at most 7.
@@ -26,30 +31,6 @@ pub fn prepare_one(reg: &mut Register, place: u8, gate: Gate) -> Result<(), TooL
 {
     reg.facts();
     match gate {
-        Gate::I => {
-            reg.prepare_same();
-            Ok(())
-        }
-        Gate::X => {
-            exchange(reg, place);
-            Ok(())
-        }
-        Gate::Y => {
-            exchange_and_turn(reg, place);
-            Ok(())
-        }
-        Gate::Z => {
-            turn(reg, place, HALF);
-            Ok(())
-        }
-        Gate::T => {
-            turn(reg, place, 1);
-            Ok(())
-        }
-        Gate::RotZ(eighths) => {
-            turn(reg, place, eighths);
-            Ok(())
-        }
         Gate::H => {
             mix(reg, place);
             reg.seal(Reduce::Delta)
@@ -66,6 +47,27 @@ pub fn prepare_one(reg: &mut Register, place: u8, gate: Gate) -> Result<(), TooL
             turn_mixed_turned(reg, place, eighths);
             reg.seal(Reduce::Delta)
         }
+        Gate::I | Gate::X | Gate::Y | Gate::Z | Gate::T | Gate::RotZ(_) => {
+            prepare_moved(reg, place, gate);
+            Ok(())
+        }
+    }
+}
+
+/// Prepares what a gate makes that only moves, negates or turns rows; at the others a copy of the value.
+fn prepare_moved(reg: &mut Register, place: u8, gate: Gate)
+    requires place { place < length reg.old.value.qubits }
+    requires eighths { HasEighths gate }
+    ensures { scale_of gate ≡ 1 → IsApplied gate place reg.old reg.new }
+{
+    reg.facts();
+    match gate {
+        Gate::X => exchange(reg, place),
+        Gate::Y => exchange_and_turn(reg, place),
+        Gate::Z => turn(reg, place, HALF),
+        Gate::T => turn(reg, place, EIGHTH),
+        Gate::RotZ(eighths) => turn(reg, place, eighths),
+        Gate::I | Gate::H | Gate::K | Gate::RotX(_) | Gate::RotY(_) => reg.prepare_same(),
     }
 }
 

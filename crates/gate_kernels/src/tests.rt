@@ -4,42 +4,17 @@ ghost use Rattle.gate_kernels.specs.Gates.{HasEighths};
 
 use crate::{Gate, Two, prepare_one, prepare_two};
 use amplitude_register::Register;
-use omega_ring::{Omega, Weight};
+use omega_ring::{Omega, Weight, coefficient};
 
-const ZERO: Omega = Omega {
-    a: 0,
-    b: 0,
-    c: 0,
-    d: 0,
-};
+const ZERO: Omega = coefficient!(0, 0, 0, 0);
 
-const ONE: Omega = Omega {
-    a: 1,
-    b: 0,
-    c: 0,
-    d: 0,
-};
+const ONE: Omega = coefficient!(1, 0, 0, 0);
 
-const IMAGINARY: Omega = Omega {
-    a: 0,
-    b: 0,
-    c: 1,
-    d: 0,
-};
+const IMAGINARY: Omega = coefficient!(0, 0, 1, 0);
 
-const MINUS_ONE: Omega = Omega {
-    a: -1,
-    b: 0,
-    c: 0,
-    d: 0,
-};
+const MINUS_ONE: Omega = coefficient!(-1, 0, 0, 0);
 
-const MINUS_IMAGINARY: Omega = Omega {
-    a: 0,
-    b: 0,
-    c: -1,
-    d: 0,
-};
+const MINUS_IMAGINARY: Omega = coefficient!(0, 0, -1, 0);
 
 /// Applies a gate to the first qubit; the size of what came, or the size that is too large, negated.
 fn apply(reg: &mut Register, gate: Gate) -> i128
@@ -104,12 +79,7 @@ fn x_and_y_exchange_the_basis(rt: HostRuntime) {
 #[test]
 fn z_and_t_turn_the_one(rt: HostRuntime) {
     let mut reg = Register::new(rt.alloc(), 1).expect(&rt, "memory");
-    let eighth = Omega {
-        a: 0,
-        b: 1,
-        c: 0,
-        d: 0,
-    };
+    let eighth = coefficient!(0, 1, 0, 0);
     assert!(rt; after(&mut reg, true, Gate::Z) == (ZERO, MINUS_ONE));
     assert!(rt; after(&mut reg, false, Gate::Z) == (ONE, ZERO));
     assert!(rt; after(&mut reg, true, Gate::T) == (ZERO, eighth));
@@ -161,22 +131,12 @@ fn a_turn_between_hadamards_weighs_four_and_two(rt: HostRuntime) {
     after(&mut reg, false, Gate::H);
     apply(&mut reg, Gate::T);
     assert_eq!(rt; apply(&mut reg, Gate::H), 4);
-    let sum = Omega {
-        a: 0,
-        b: 1,
-        c: 1,
-        d: 1,
-    };
+    let sum = coefficient!(0, 1, 1, 1);
     assert!(rt; rows(&reg) == (sum, ONE));
     assert_eq!(rt; sum.wide().weight(), Weight { x: 3, y: 2 });
     apply(&mut reg, Gate::T);
     assert_eq!(rt; apply(&mut reg, Gate::H), 4);
-    let three = Omega {
-        a: 1,
-        b: 1,
-        c: 0,
-        d: 1,
-    };
+    let three = coefficient!(1, 1, 0, 1);
     assert!(rt; rows(&reg) == (three, IMAGINARY));
     assert_eq!(rt; three.wide().weight(), Weight { x: 3, y: 0 });
 }

@@ -8,7 +8,7 @@ ghost use Rattle.register_split.specs.Removal.{HasRowWith};
 use amplitude_register::{Reduce, Register};
 use born_draw::outcome;
 use gate_kernels::{Gate, Two, prepare_one, prepare_two};
-use omega_ring::Omega;
+use omega_ring::{Omega, coefficient};
 use register_merge::{Merge, prepare_merge, verdict};
 use register_split::{prepare_take_out, weights};
 use std::alloc::{AllocError, Global};
@@ -18,12 +18,8 @@ const EIGHTH: u8 = 1;
 
 const UNDONE: u8 = 7;
 
-const ONE: Omega = Omega {
-    a: 1,
-    b: 0,
-    c: 0,
-    d: 0,
-};
+/// The amplitude of each first row.
+const ONE: Omega = coefficient!(1, 0, 0, 0);
 
 /// A register of so many qubits from number 0 on, if at most 12, each the sum of its basis states, one turned by an
 /// eighth.

@@ -32,17 +32,18 @@ at_past (x ∷ xs) (suc i) h = at_past xs i (omega arith)
 pub zero_ready : IsReady zero_coefficient
 zero_ready = record { balanced = record { high = omega (arith, order); low = omega (arith, order) }; small = below_in (norm zero_coefficient) (pos (2 ^ 122)) (omega arith) }
 
+-- the norm of an entry
+pub norm_bound : (x y : ℤ) → pos 0 ≤ℤ x → x <ℤ pos (2 ^ 61) → (x *ℤ x -ℤ pos 2 *ℤ (y *ℤ y)) <ℤ pos (2 ^ 122)
+norm_bound x y h k =
+    let e = square_abs x in
+    let f = square_not_negative y in
+    let g = doubled (y *ℤ y) in
+    let n : unsigned_abs x < 2 ^ 61 = omega (arith, ints) in
+    let m : unsigned_abs x * unsigned_abs x < 2 ^ 61 * 2 ^ 61 = mul-lt (unsigned_abs x) (unsigned_abs x) (2 ^ 61) (2 ^ 61) n n in
+    omega (arith, order)
+
 pub entry_ready : (z b : Coefficient) → (weight z).x <ℤ pos (2 ^ 61) → IsBalanced (weight b) → norm b ≡ norm z → IsReady b
-entry_ready z b h k e = record { balanced = k; small = subst (λ (n : ℤ). n <ℤ pos (2 ^ 122)) (sym e) (bound (weight z).x (weight z).y (x_not_negative z) h) }
-  where
-    bound : (x y : ℤ) → pos 0 ≤ℤ x → x <ℤ pos (2 ^ 61) → (x *ℤ x -ℤ pos 2 *ℤ (y *ℤ y)) <ℤ pos (2 ^ 122)
-    bound x y h k =
-        let e = square_abs x in
-        let f = square_not_negative y in
-        let g = doubled (y *ℤ y) in
-        let n : unsigned_abs x < 2 ^ 61 = omega (arith, ints) in
-        let m : unsigned_abs x * unsigned_abs x < 2 ^ 61 * 2 ^ 61 = mul-lt (unsigned_abs x) (unsigned_abs x) (2 ^ 61) (2 ^ 61) n n in
-        omega (arith, order)
+entry_ready z b h k e = record { balanced = k; small = subst (λ (n : ℤ). n <ℤ pos (2 ^ 122)) (sym e) (norm_bound (weight z).x (weight z).y (x_not_negative z) h) }
 
 pub greatest_entry : (c b z g : Coefficient) → IsGreatest c b g → IsAssociate b z → IsGreatest c z g
 greatest_entry c b z g k a = record { left = k.left; right = divides_trans g b z k.right (a.0); greatest = λ h p q. k.greatest h p (divides_trans h z b q (a.1)) }

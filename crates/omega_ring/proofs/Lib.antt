@@ -1,5 +1,7 @@
 pub mod Stored
+pub mod Short
 pub mod StoredSteps
+pub mod WeightSteps
 pub mod Parity
 pub mod Descent
 pub mod UnitSizes

@@ -1,7 +1,7 @@
 -- Halves of even numbers, and the test for one.
 use Rattle.std.proofs.Common.{◌≡◌, ℕ, suc, zero, ◌+◌, ◌/◌, ◌%◌, ◌<◌, ℤ, pos, negsuc, ◌+ℤ◌, neg_ℤ, IsTrue, ◌↔◌, nat_eq, of_z, true, refl, sym, ap, ◌∙◌, arith}
 use Rattle.std.proofs.lemmas.Bool.{eqb-true}
-use mir.Syntax.{w128}
+use mir.Syntax.{w64}
 use lib.Signed.{rem_z}
 use Rattle.state_model.specs.Quotients.{IsEven}
 use Rattle.state_model.proofs.Inequalities.{order}
@@ -25,14 +25,14 @@ value_even (pos n) = ap pos (omega arith)
 value_even (negsuc n) = let e : suc (suc (n + n)) % 2 ≡ 0 = omega arith in ap (λ (m : ℕ). neg_ℤ (pos m)) e
 
 -- the bits of the remainder are 0 exactly where it is 0
-bits_zero : (m : ℤ) → (nat_eq (of_z w128 (rem_z m (pos 2))) 0 ≡ true) → rem_z m (pos 2) ≡ pos 0
+bits_zero : (m : ℤ) → (nat_eq (of_z w64 (rem_z m (pos 2))) 0 ≡ true) → rem_z m (pos 2) ≡ pos 0
 bits_zero (pos n) e = ap pos (eqb-true (n % 2) 0 e)
 bits_zero (negsuc n) e = small (suc n % 2) (omega arith) e
   where
-    small : (r : ℕ) → r < 2 → nat_eq (of_z w128 (neg_ℤ (pos r))) 0 ≡ true → neg_ℤ (pos r) ≡ pos 0
+    small : (r : ℕ) → r < 2 → nat_eq (of_z w64 (neg_ℤ (pos r))) 0 ≡ true → neg_ℤ (pos r) ≡ pos 0
     small zero h e = refl
     small (suc zero) h e = cc
     small (suc (suc r)) h e = absurd (omega arith)
 
-pub even_test : (m : ℤ) → IsTrue (nat_eq (of_z w128 (rem_z m (pos 2))) 0) ↔ IsEven m
-even_test m = (λ t. even_value m (bits_zero m t), λ (k, e). ap (λ (z : ℤ). nat_eq (of_z w128 (rem_z z (pos 2))) 0) e ∙ ap (λ (z : ℤ). nat_eq (of_z w128 z) 0) (value_even k))
+pub even_test : (m : ℤ) → IsTrue (nat_eq (of_z w64 (rem_z m (pos 2))) 0) ↔ IsEven m
+even_test m = (λ t. even_value m (bits_zero m t), λ (k, e). ap (λ (z : ℤ). nat_eq (of_z w64 (rem_z z (pos 2))) 0) e ∙ ap (λ (z : ℤ). nat_eq (of_z w64 z) 0) (value_even k))

@@ -4,9 +4,9 @@ use Rattle.std.proofs.lemmas.Int.{ints, to_z-of_z}
 use Rattle.std.proofs.lemmas.Nat.{mul-le}
 use mir.Syntax.{w128}
 use Rattle.state_model.specs.Coefficient.{Coefficient, Weight, conjugate, weight, ◌⊖◌, ◌⊗◌}
-use Rattle.state_model.specs.Divisors.{norm}
+use Rattle.state_model.specs.Divisors.{norm, weight_norm}
 use Rattle.state_model.specs.Quotients.{IsHalf, IsRemainder}
-use Rattle.omega_ring.specs.Range.{CoordinatesBelow, CoordinatesUpTo}
+use Rattle.omega_ring.specs.Range.{CoordinatesBelow, CoordinatesUpTo, PartsBelow}
 use Rattle.omega_ring.specs.Steps.{IsNearest, IsReady, conjugate_weight}
 use Rattle.state_model.proofs.Division.{companion, nearest_quotient, remainder_product, scale}
 use Rattle.state_model.proofs.Inequalities.{order}
@@ -37,6 +37,10 @@ half_here t q r n p e k l f = rw (f, no_shift t q r n e) record { low = omega (a
 pub half_stored : (n t q : ℤ) → FitsSigned w128 n → FitsSigned w128 t → FitsSigned w128 q → IsHalf (to_z w128 (of_z w128 n)) (to_z w128 (of_z w128 t) -ℤ q *ℤ to_z w128 (of_z w128 n)) → IsHalf n (t -ℤ to_z w128 (of_z w128 q) *ℤ n)
 half_stored n t q f g h k = rw (to_z-of_z w128 q h) (rw (to_z-of_z w128 n f, to_z-of_z w128 t g) at k)
 
+-- the quotient and what is left of it, where the code divided
+pub stored_parts : (t n q r : ℤ) → FitsSigned w128 t → FitsSigned w128 n → q *ℤ to_z w128 (of_z w128 n) +ℤ r ≡ to_z w128 (of_z w128 t) → unsigned_abs r < unsigned_abs (to_z w128 (of_z w128 n)) → (q *ℤ n +ℤ r ≡ t) × (unsigned_abs r < unsigned_abs n)
+stored_parts t n q r f g e h = (rw (to_z-of_z w128 n g, to_z-of_z w128 t f) at e, rw (to_z-of_z w128 n g) at h)
+
 -- ---- sizes
 pub far_size : (p q r : ℤ) → unsigned_abs p < 2 ^ 31 → unsigned_abs q ≤ 2 ^ 94 → unsigned_abs r ≡ unsigned_abs (to_z w128 (of_z w128 p)) * unsigned_abs (to_z w128 (of_z w128 q)) → unsigned_abs (to_z w128 (of_z w128 r)) < 2 ^ 125
 far_size p q r h k e =
@@ -63,17 +67,25 @@ abs_neg z = omega (arith, ints)
 pub within_conjugate : (n : ℕ) (z : Coefficient) → CoordinatesBelow n z → CoordinatesBelow n (conjugate z)
 within_conjugate n z h = record { a = h.a; b = omega (arith, h.d, abs_neg z.d); c = omega (arith, h.c, abs_neg z.c); d = omega (arith, h.b, abs_neg z.b) }
 
-pub weight_fields : (u : Coefficient) (w : Weight) → w ≡ weight u → IsSmall u → (unsigned_abs w.x < 2 ^ 62) × (unsigned_abs w.y < 2 ^ 62)
-weight_fields u w e s = subst (λ (v : Weight). (unsigned_abs v.x < 2 ^ 62) × (unsigned_abs v.y < 2 ^ 62)) (sym e) (fields (weight u) s.x (x_not_negative u) (l.0) (l.1))
+pub weight_fields : (u : Coefficient) (w : Weight) → w ≡ weight u → IsSmall u → PartsBelow (2 ^ 62) w
+weight_fields u w e s = subst (PartsBelow (2 ^ 62)) (sym e) (fields (weight u) s.x (x_not_negative u) (l.0) (l.1))
   where
     l : ((weight u).y ≤ℤ (weight u).x) × (neg_ℤ (weight u).y ≤ℤ (weight u).x)
     l = y_at_most u
 
-    fields : (v : Weight) → v.x <ℤ pos (2 ^ 62) → pos 0 ≤ℤ v.x → v.y ≤ℤ v.x → neg_ℤ v.y ≤ℤ v.x → (unsigned_abs v.x < 2 ^ 62) × (unsigned_abs v.y < 2 ^ 62)
-    fields v h k l m = (omega (arith, ints), omega (arith, ints))
+    fields : (v : Weight) → v.x <ℤ pos (2 ^ 62) → pos 0 ≤ℤ v.x → v.y ≤ℤ v.x → neg_ℤ v.y ≤ℤ v.x → PartsBelow (2 ^ 62) v
+    fields v h k l m = record { x = omega (arith, ints); y = omega (arith, ints) }
 
-pub within_weight : (w : Weight) → unsigned_abs w.x < 2 ^ 62 → unsigned_abs w.y < 2 ^ 62 → CoordinatesUpTo (2 ^ 94) (conjugate_weight w)
-within_weight w h k = record { a = omega (arith, h); b = omega (arith, k, abs_neg w.y); c = omega arith; d = omega (arith, k) }
+pub within_weight : (w : Weight) → PartsBelow (2 ^ 62) w → CoordinatesUpTo (2 ^ 94) (conjugate_weight w)
+within_weight w h = record { a = omega (arith, h.x); b = omega (arith, h.y, abs_neg w.y); c = omega arith; d = omega (arith, h.y) }
+
+-- what a coefficient's conjugate gives with that of its weight
+pub companion_of : (u p q r : Coefficient) (w : Weight) → p ≡ q ⊗ r → q ≡ conjugate u → r ≡ conjugate_weight w → w ≡ weight u → p ≡ companion u
+companion_of u p q r w e f g h = e ∙ ap (λ (t : Coefficient). t ⊗ r) f ∙ ap (λ (t : Coefficient). conjugate u ⊗ t) (g ∙ ap conjugate_weight h)
+
+-- the norm that the code computed
+pub norm_of : (n : ℤ) (u : Coefficient) (w : Weight) → FitsSigned w128 n → n ≡ weight_norm w → w ≡ weight u → to_z w128 (of_z w128 n) ≡ norm u
+norm_of n u w f e g = to_z-of_z w128 n f ∙ e ∙ ap weight_norm g
 
 pub nearest_along : (n m : ℤ) (t s q : Coefficient) → m ≡ n → s ≡ t → IsNearest m s q → IsNearest n t q
 nearest_along n m t s q e f k = subst (λ (x : ℤ). IsNearest x t q) e (subst (λ (x : Coefficient). IsNearest m x q) f k)

@@ -1,8 +1,8 @@
 -- How large the numbers in one of Euclid's steps are.
-use Rattle.std.proofs.Common.{◌≡◌, ℕ, suc, zero, ◌+◌, ◌*◌, ◌≤◌, ◌<◌, ◌^◌, ℤ, pos, ◌+ℤ◌, ◌-ℤ◌, ◌*ℤ◌, neg_ℤ, ◌≤ℤ◌, ◌<ℤ◌, unsigned_abs, refl, sym, ap, ◌∙◌, arith, [], ◌∷◌}
+use Rattle.std.proofs.Common.{◌≡◌, ℕ, suc, zero, ◌+◌, ◌-◌, ◌*◌, ◌≤◌, ◌<◌, ◌^◌, ℤ, pos, ◌+ℤ◌, ◌-ℤ◌, ◌*ℤ◌, neg_ℤ, ◌≤ℤ◌, ◌<ℤ◌, unsigned_abs, refl, sym, ap, ◌∙◌, arith, [], ◌∷◌}
 use Rattle.std.proofs.lemmas.Int.{ints, unsigned_abs-mul, by_lt_z}
 use native.Mathlib.Nat.{mul-le-mul}
-use Rattle.state_model.specs.Coefficient.{Coefficient, Weight, conjugate, weight, ◌⊗◌}
+use Rattle.state_model.specs.Coefficient.{Coefficient, Weight, conjugate, weight, ◌⊖◌, ◌⊗◌}
 use Rattle.state_model.specs.Divisors.{IsBalanced, norm, weight_norm, weight_product}
 use Rattle.state_model.specs.Quotients.{IsHalf}
 use Rattle.omega_ring.specs.Range.{CoordinatesBelow, CoordinatesUpTo}
@@ -14,7 +14,7 @@ use Rattle.state_model.proofs.Inequalities.{order, product_monotone, product_not
 use Rattle.state_model.proofs.Norms.{weight-⊗}
 use Rattle.state_model.proofs.Polynomial.{equal, less, minus, number, plus, square, times, two, var}
 use Rattle.state_model.proofs.Units.{x_not_negative, y_at_most}
-use Rattle.omega_ring.proofs.UnitSizes.{root_of}
+use Rattle.omega_ring.proofs.UnitSizes.{root_bound, coordinates_below}
 
 -- ---- the weight of a balanced coefficient is at most twice the root of its norm
 twice_norm : (v : Weight) → IsBalanced v → (v.x *ℤ v.x) ≤ℤ (weight_norm v +ℤ weight_norm v)
@@ -25,9 +25,6 @@ twice_norm v b =
     let t = pair 0 in let n = norm_pair t in equal (v.x ∷ v.y ∷ []) (times (less t.x (plus t.y t.y)) (plus t.x (plus t.y t.y))) (less (plus n n) (square t.x)) refl in
     omega (arith, order)
 
-root_bound : (x : ℤ) (k : ℕ) → (x *ℤ x) <ℤ pos (k * k) → unsigned_abs x < k
-root_bound x k h = let e = square_abs x in root_of (unsigned_abs x) k (omega (arith, order))
-
 pub record IsSmall (z : Coefficient) : Type 0 where
   pub x : (weight z).x <ℤ pos (2 ^ 62)
   pub y_high : ((weight z).y +ℤ (weight z).y) ≤ℤ (weight z).x
@@ -37,16 +34,11 @@ pub record IsSmall (z : Coefficient) : Type 0 where
 ready_x : (x n : ℤ) → pos 0 ≤ℤ x → (x *ℤ x) ≤ℤ (n +ℤ n) → n <ℤ pos (2 ^ 122) → x <ℤ pos (2 ^ 62)
 ready_x x n h k l = let s : unsigned_abs x < 2 ^ 62 = root_bound x (2 ^ 62) (omega (arith, order)) in omega (arith, ints)
 
-small_coordinates : (z : Coefficient) → (weight z).x <ℤ pos (2 ^ 62) → CoordinatesBelow (2 ^ 31) z
-small_coordinates z h =
-    let p = square_not_negative z.a in let q = square_not_negative z.b in let r = square_not_negative z.c in let s = square_not_negative z.d in
-    record { a = root_bound z.a (2 ^ 31) (omega (arith, order)); b = root_bound z.b (2 ^ 31) (omega (arith, order)); c = root_bound z.c (2 ^ 31) (omega (arith, order)); d = root_bound z.d (2 ^ 31) (omega (arith, order)) }
-
 pub ready_small : (z : Coefficient) → IsReady z → IsSmall z
 ready_small z r =
     let b = r.balanced in
     let k = ready_x (weight z).x (norm z) (x_not_negative z) (twice_norm (weight z) r.balanced) r.small in
-    record { x = k; y_high = b.high; y_low = b.low; coordinates = small_coordinates z k }
+    record { x = k; y_high = b.high; y_low = b.low; coordinates = coordinates_below (2 ^ 31) z k }
 
 abbrev pub total_of : Coefficient → ℕ
 total_of q = unsigned_abs q.a + unsigned_abs q.b + unsigned_abs q.c + unsigned_abs q.d
@@ -246,3 +238,17 @@ remainder_weight u r e h b f ha hb hc hd =
         let j : e *ℤ x ≡ x *ℤ e = equal (e ∷ x ∷ []) (times (var 0) (var 1)) (times (var 1) (var 0)) refl in
         absurd (omega (arith, order)))
         (λ q. q)
+
+-- the product of two coefficients of small coordinates
+pub product_within : (z u : Coefficient) → CoordinatesBelow (2 ^ 30) z → CoordinatesBelow (2 ^ 30) u → CoordinatesBelow (2 ^ 62) (z ⊗ u)
+product_within z u h k =
+    let most : CoordinatesUpTo (2 ^ 30 - 1) z = record { a = omega (arith, h.a); b = omega (arith, h.b); c = omega (arith, h.c); d = omega (arith, h.d) } in
+    let b = ⊗-bound z u (2 ^ 30 - 1) (2 ^ 32 - 4) most (omega (arith, k.a, k.b, k.c, k.d)) in
+    record { a = omega (arith, b.a); b = omega (arith, b.b); c = omega (arith, b.c); d = omega (arith, b.d) }
+
+-- the difference of two such coefficients
+pub difference_within : (z u : Coefficient) → CoordinatesBelow (2 ^ 61) z → CoordinatesBelow (2 ^ 61) u → CoordinatesBelow (2 ^ 63) (z ⊖ u)
+difference_within z u h k = record { a = below z.a u.a h.a k.a; b = below z.b u.b h.b k.b; c = below z.c u.c h.c k.c; d = below z.d u.d h.d k.d }
+  where
+    below : (x y : ℤ) → unsigned_abs x < 2 ^ 61 → unsigned_abs y < 2 ^ 61 → unsigned_abs (x -ℤ y) < 2 ^ 63
+    below x y h k = omega (arith, ints)

@@ -1,6 +1,6 @@
 -- What the code's operations at 128 bits give, where the numbers are small.
-use Rattle.std.proofs.Common.{◌≡◌, ◌<◌, ◌^◌, ℤ, pos, ◌+ℤ◌, ◌*ℤ◌, neg_ℤ, unsigned_abs, FitsSigned, to_z, of_z, refl, ap, ◌∙◌, arith}
-use Rattle.std.proofs.lemmas.Int.{ints, to_z-of_z, unsigned_abs-mul, fits_signed_from_abs}
+use Rattle.std.proofs.Common.{◌≡◌, ◌<◌, ◌^◌, ℤ, ◌+ℤ◌, ◌*ℤ◌, unsigned_abs, FitsSigned, to_z, of_z, ap, ◌∙◌, arith}
+use Rattle.std.proofs.lemmas.Int.{to_z-of_z, unsigned_abs-mul, fits_signed_from_abs}
 use Rattle.std.proofs.lemmas.Nat.{mul-lt}
 use mir.Syntax.{w128}
 use Rattle.state_model.specs.Coefficient.{Coefficient, ◌⊗◌}
@@ -17,12 +17,13 @@ product_back m n f g p q =
     let fits : FitsSigned w128 (m *ℤ n) = fits_signed_from_abs w128 (m *ℤ n) (omega arith) in
     rw (to_z-of_z w128 m f, to_z-of_z w128 n g) (to_z-of_z w128 (m *ℤ n) fits)
 
-pub abs_neg : (z : ℤ) → unsigned_abs (neg_ℤ z) ≡ unsigned_abs z
-abs_neg z = omega (arith, ints)
-
 -- the coefficient as its bits are read
 abbrev pub stored : Coefficient → Coefficient
 stored z = record { a = to_z w128 (of_z w128 z.a); b = to_z w128 (of_z w128 z.b); c = to_z w128 (of_z w128 z.c); d = to_z w128 (of_z w128 z.d) }
+
+-- a number as its bits are read
+abbrev pub long : ℤ → ℤ
+long z = to_z w128 (of_z w128 z)
 
 pub back_of : (z : ℤ) → unsigned_abs z < 2 ^ 127 → to_z w128 (of_z w128 z) ≡ z
 back_of z h = to_z-of_z w128 z (fits_signed_from_abs w128 z h)
@@ -43,14 +44,3 @@ named_back k p h = back_of p (omega (arith, h.1)) ∙ h.0
 -- the sum of four numbers that are named, and the bits that it is stored in
 pub stored_total : (t p q r s k l m n : ℤ) → FitsSigned w128 t → t ≡ to_z w128 (of_z w128 p) +ℤ to_z w128 (of_z w128 q) +ℤ to_z w128 (of_z w128 r) +ℤ to_z w128 (of_z w128 s) → Named k p → Named l q → Named m r → Named n s → to_z w128 (of_z w128 t) ≡ k +ℤ l +ℤ m +ℤ n
 stored_total t p q r s k l m n f e hp hq hr hs = to_z-of_z w128 t f ∙ e ∙ rw (named_back k p hp, named_back l q hq, named_back m r hr, named_back n s hs)
-
-pub named_self : (z : ℤ) → unsigned_abs z < 2 ^ 63 → Named z z
-named_self z h = (refl, omega (arith, h))
-
-pub named_zero : Named (pos 0) (pos 0)
-named_zero = (refl, omega arith)
-
-pub named_neg : (r z : ℤ) → unsigned_abs z < 2 ^ 63 → r ≡ neg_ℤ (to_z w128 (of_z w128 z)) → Named (neg_ℤ z) r
-named_neg r z h e =
-    let f : r ≡ neg_ℤ z = e ∙ ap neg_ℤ (back_of z (omega (arith, h))) in
-    (f, omega (arith, h, abs_neg z, ap unsigned_abs f))

@@ -1,7 +1,7 @@
--- How large coordinates may be.
+-- How large coordinates and the parts of weights may be.
 use Rattle.std.specs.Prelude.{ℕ, ◌<◌, ◌≤◌, unsigned_abs, FitsSigned}
 use Rattle.std.specs.Int.{w64}
-use Rattle.state_model.specs.Coefficient.{Coefficient}
+use Rattle.state_model.specs.Coefficient.{Coefficient, Weight}
 
 -- all coordinates lie strictly between -n and n
 pub record CoordinatesBelow (n : ℕ) (z : Coefficient) : Type 0 where
@@ -23,3 +23,8 @@ pub record FitsOmega (z : Coefficient) : Type 0 where
   pub b : FitsSigned w64 z.b
   pub c : FitsSigned w64 z.c
   pub d : FitsSigned w64 z.d
+
+-- both parts of a weight lie strictly between -n and n
+pub record PartsBelow (n : ℕ) (p : Weight) : Type 0 where
+  pub x : unsigned_abs p.x < n
+  pub y : unsigned_abs p.y < n

@@ -64,6 +64,24 @@ pub(crate) fn exact(m: i128, n: i128) -> i128
     m * n
 }
 
+/// The sum of two numbers below 2^122.
+pub(crate) fn plus(m: i128, n: i128) -> i128
+    requires left { unsigned_abs m < 2 ^ 122 }
+    requires right { unsigned_abs n < 2 ^ 122 }
+    ensures { result ≡ m +ℤ n }
+{
+    m + n
+}
+
+/// The sum of a number and twice another, both below 2^122.
+pub(crate) fn plus_twice(m: i128, n: i128) -> i128
+    requires left { unsigned_abs m < 2 ^ 122 }
+    requires right { unsigned_abs n < 2 ^ 122 }
+    ensures { result ≡ m +ℤ pos 2 *ℤ n }
+{
+    m + 2 * n
+}
+
 /// The first number less twice the second.
 pub(crate) fn less_twice(m: i128, n: i128) -> i128
     requires m { unsigned_abs m < 2 ^ 125 }
@@ -81,18 +99,25 @@ pub(crate) fn narrowed(m: i128) -> Option<i64>
     i64::try_from(m).ok()
 }
 
-pub(crate) fn is_even(m: i128) -> bool
+/// Whether a number is even.
+pub(crate) fn is_even(m: i64) -> bool
     ensures { IsTrue result ↔ IsEven m }
 {
     m % 2 == 0
 }
 
 /// Half of an even number.
-pub(crate) fn half_of(m: i128) -> i128
-    requires small { unsigned_abs m < 2 ^ 63 }
-    requires even { IsEven m }
-    ensures value { m ≡ result +ℤ result }
-    ensures size { unsigned_abs result < 2 ^ 63 }
+pub(crate) fn half_of(m: i64) -> i64
+    requires { IsEven m }
+    ensures { m ≡ result +ℤ result }
+{
+    m / 2
+}
+
+/// Half of an even number, in 128 bits.
+pub(crate) fn half_of_wide(m: i128) -> i128
+    requires { IsEven m }
+    ensures { m ≡ result +ℤ result }
 {
     m / 2
 }
@@ -104,6 +129,7 @@ struct Parts {
     rest: i128,
 }
 
+/// The quotient that is rounded toward zero, and what is left.
 fn divided(t: i128, n: i128) -> Parts
     requires positive { pos 0 <ℤ n }
     requires size { unsigned_abs t ≤ 2 ^ 35 * unsigned_abs n }

@@ -9,7 +9,9 @@ use crate::weights::Weight;
 /// A weight with twice the absolute value of y at most x, and the power of `3 + 2 sqrt(2)` that led to it.
 #[derive(Clone, Copy, PartialEq, Eq, Debug, Drop)]
 pub struct Balanced {
+    /// The balanced weight.
     pub weight: Weight,
+    /// The power that was multiplied with.
     pub power: i32,
 }
 
@@ -93,29 +95,12 @@ fn step_down(x: i128, y: i128) -> Lowered
     if 2 * y <= x {
         Lowered { x, y, steps: 0 }
     } else {
-        let rest = step_down(lower_x(x, y), lower_y(x, y));
+        let next = Weight { x, y }.lowered();
+        let rest = step_down(next.x, next.y);
         Lowered {
             x: rest.x,
             y: rest.y,
             steps: rest.steps + 1,
         }
     }
-}
-
-/// The x of the weight times `3 - 2 sqrt(2)`.
-fn lower_x(x: i128, y: i128) -> i128
-    requires x { unsigned_abs x < 2 ^ 122 }
-    requires y { unsigned_abs y < 2 ^ 122 }
-    ensures { result ≡ pos 3 *ℤ x -ℤ pos 4 *ℤ y }
-{
-    3 * x - 4 * y
-}
-
-/// The y of the weight times `3 - 2 sqrt(2)`.
-fn lower_y(x: i128, y: i128) -> i128
-    requires x { unsigned_abs x < 2 ^ 122 }
-    requires y { unsigned_abs y < 2 ^ 122 }
-    ensures { result ≡ pos 3 *ℤ y -ℤ pos 2 *ℤ x }
-{
-    3 * y - 2 * x
 }

@@ -10,19 +10,35 @@ use crate::weights::Weight;
 /// `a + b w + c w^2 + d w^3`, where w is the eighth root of unity and `w^4 = -1`.
 #[derive(Clone, Copy, PartialEq, Eq, Debug, Drop)]
 pub struct Omega {
+    /// The coordinate at 1.
     pub a: i64,
+    /// The coordinate at w.
     pub b: i64,
+    /// The coordinate at w^2, the imaginary unit.
     pub c: i64,
+    /// The coordinate at w^3.
     pub d: i64,
 }
 
 /// `a + b w + c w^2 + d w^3` with wider coordinates.
 #[derive(Clone, Copy, PartialEq, Eq, Debug, Drop)]
 pub struct Wide {
+    /// The coordinate at 1.
     pub a: i128,
+    /// The coordinate at w.
     pub b: i128,
+    /// The coordinate at w^2, the imaginary unit.
     pub c: i128,
+    /// The coordinate at w^3.
     pub d: i128,
+}
+
+/// The coefficient `a + b w + c w^2 + d w^3`.
+#[macro_export]
+macro_rules! coefficient {
+    ($a:expr, $b:expr, $c:expr, $d:expr) => {
+        $crate::Omega { a: $a, b: $b, c: $c, d: $d }
+    };
 }
 
 impl Omega {
@@ -37,6 +53,37 @@ impl Omega {
             d: self.d as i128,
         }
     }
+
+    /// The sum, coordinate by coordinate.
+    #[inline]
+    pub fn plus(self, other: Omega) -> Omega
+        requires left { CoordinatesBelow (2 ^ 61) (omega_value self) }
+        requires right { CoordinatesBelow (2 ^ 61) (omega_value other) }
+        ensures { omega_value result ≡ omega_value self ⊕ omega_value other }
+    {
+        self.wide().add(other.wide()).short()
+    }
+
+    /// The difference, coordinate by coordinate.
+    #[inline]
+    pub fn minus(self, other: Omega) -> Omega
+        requires left { CoordinatesBelow (2 ^ 61) (omega_value self) }
+        requires right { CoordinatesBelow (2 ^ 61) (omega_value other) }
+        ensures { omega_value result ≡ omega_value self ⊖ omega_value other }
+    {
+        self.wide().sub(other.wide()).short()
+    }
+
+    /// The product.
+    #[inline]
+    pub fn times(self, other: Omega) -> Omega
+        requires left { CoordinatesBelow (2 ^ 30) (omega_value self) }
+        requires right { CoordinatesBelow (2 ^ 30) (omega_value other) }
+        ensures value { omega_value result ≡ omega_value self ⊗ omega_value other }
+        ensures small { CoordinatesBelow (2 ^ 62) (omega_value result) }
+    {
+        self.wide().mul(other.wide()).short()
+    }
 }
 
 impl Wide {
@@ -50,6 +97,19 @@ impl Wide {
         let c = narrowed(self.c)?;
         let d = narrowed(self.d)?;
         Some(Omega { a, b, c, d })
+    }
+
+    /// The same value in 64 bits, where it fits.
+    pub(crate) fn short(self) -> Omega
+        requires { CoordinatesBelow (2 ^ 63) (wide_value self) }
+        ensures { omega_value result ≡ wide_value self }
+    {
+        Omega {
+            a: self.a as i64,
+            b: self.b as i64,
+            c: self.c as i64,
+            d: self.d as i64,
+        }
     }
 
     /// The sum, coordinate by coordinate.

@@ -161,17 +161,4 @@ impl Wide {
             exact(self.d, q.d),
         )
     }
-
-    /// The value in 64 bits.
-    fn short(self) -> Omega
-        requires { CoordinatesBelow (2 ^ 36) (wide_value self) }
-        ensures { omega_value result ≡ wide_value self }
-    {
-        Omega {
-            a: self.a as i64,
-            b: self.b as i64,
-            c: self.c as i64,
-            d: self.d as i64,
-        }
-    }
 }

@@ -9,8 +9,11 @@ use crate::weights::Weight;
 /// Whether a real number is below 0, 0 or above 0.
 #[derive(Clone, Copy, PartialEq, Eq, Debug, Drop)]
 pub enum Sign {
+    /// Below 0.
     Negative,
+    /// 0.
     Zero,
+    /// Above 0.
     Positive,
 }
 

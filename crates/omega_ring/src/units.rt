@@ -3,12 +3,10 @@ ghost use Rattle.std.specs.Prelude.{◌≡◌, ◌<◌, ◌^◌, ◌<ℤ◌, pos
 ghost use Rattle.state_model.specs.Coefficient.{◌⊗◌, weight};
 ghost use Rattle.state_model.specs.Divisors.{IsBalanced, norm, unit_up, unit_down};
 ghost use Rattle.state_model.specs.Quotients.{IsAssociate};
-ghost use Rattle.omega_ring.specs.Views.{wide_value};
+ghost use Rattle.omega_ring.specs.Views.{omega_value, wide_value};
 ghost use Rattle.omega_ring.specs.Range.{CoordinatesBelow};
 
-use crate::arithmetic::{negated, total};
-use crate::coefficients::Wide;
-use crate::weights::Weight;
+use crate::coefficients::{Omega, Wide};
 
 impl Wide {
     /// The value times `sqrt(2) + 1` where up, else times `sqrt(2) - 1`.
@@ -18,35 +16,9 @@ impl Wide {
         ensures down { IsFalse up → wide_value result ≡ wide_value self ⊗ unit_down }
     {
         if up {
-            self.times_unit_up()
+            self.short().times_unit_up().wide()
         } else {
-            self.times_unit_down()
-        }
-    }
-
-    /// The value times `sqrt(2) + 1`.
-    fn times_unit_up(self) -> Wide
-        requires { CoordinatesBelow (2 ^ 61) (wide_value self) }
-        ensures { wide_value result ≡ wide_value self ⊗ unit_up }
-    {
-        Wide {
-            a: total(self.a, self.b, negated(self.d), 0),
-            b: total(self.a, self.b, self.c, 0),
-            c: total(self.b, self.c, self.d, 0),
-            d: total(self.c, self.d, negated(self.a), 0),
-        }
-    }
-
-    /// The value times `sqrt(2) - 1`.
-    fn times_unit_down(self) -> Wide
-        requires { CoordinatesBelow (2 ^ 61) (wide_value self) }
-        ensures { wide_value result ≡ wide_value self ⊗ unit_down }
-    {
-        Wide {
-            a: total(self.b, negated(self.a), negated(self.d), 0),
-            b: total(self.a, self.c, negated(self.b), 0),
-            c: total(self.b, self.d, negated(self.c), 0),
-            d: total(self.c, negated(self.a), negated(self.d), 0),
+            self.short().times_unit_down().wide()
         }
     }
 
@@ -57,13 +29,41 @@ impl Wide {
         ensures associate { IsAssociate (wide_value result) (wide_value self) }
         ensures norm { norm (wide_value result) ≡ norm (wide_value self) }
     {
-        let Weight { x, y } = self.weight();
-        if x < 2 * y {
-            self.times_unit_down().balanced()
-        } else if x < -(2 * y) {
-            self.times_unit_up().balanced()
+        let weight = self.weight();
+        if weight.is_high() {
+            self.times_unit(false).balanced()
+        } else if weight.is_low() {
+            self.times_unit(true).balanced()
         } else {
             self
+        }
+    }
+}
+
+impl Omega {
+    /// The value times `sqrt(2) + 1`.
+    pub fn times_unit_up(self) -> Omega
+        requires { CoordinatesBelow (2 ^ 61) (omega_value self) }
+        ensures { omega_value result ≡ omega_value self ⊗ unit_up }
+    {
+        Omega {
+            a: self.a + self.b - self.d,
+            b: self.a + self.b + self.c,
+            c: self.b + self.c + self.d,
+            d: self.c + self.d - self.a,
+        }
+    }
+
+    /// The value times `sqrt(2) - 1`.
+    pub fn times_unit_down(self) -> Omega
+        requires { CoordinatesBelow (2 ^ 61) (omega_value self) }
+        ensures { omega_value result ≡ omega_value self ⊗ unit_down }
+    {
+        Omega {
+            a: self.b - self.a - self.d,
+            b: self.a - self.b + self.c,
+            c: self.b - self.c + self.d,
+            d: self.c - self.a - self.d,
         }
     }
 }

@@ -2,7 +2,6 @@ pub mod ProductLists
 pub mod ProductVectors
 pub mod UnitMultiples
 pub mod ProductSizes
-pub mod Stored
 pub mod Coordinates
 pub mod ProductWeights
 pub mod WrittenRows

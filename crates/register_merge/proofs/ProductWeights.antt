@@ -1,6 +1,7 @@
 -- Weights of registers are positive, balanced and small, and so their products can be balanced.
 use Rattle.std.proofs.Common.{◌≡◌, ◌<◌, ◌^◌, ℤ, pos, ◌+ℤ◌, ◌-ℤ◌, ◌*ℤ◌, neg_ℤ, ◌≤ℤ◌, ◌<ℤ◌, unsigned_abs, [], ◌∷◌, refl, sym, subst, arith}
-use Rattle.std.proofs.lemmas.Int.{ints}
+use Rattle.std.proofs.lemmas.Int.{ints, unsigned_abs-mul}
+use Rattle.std.proofs.lemmas.Nat.{mul-lt}
 use Rattle.state_model.specs.Coefficient.{Weight}
 use Rattle.state_model.specs.Divisors.{IsBalanced, weight_product, weight_norm}
 use Rattle.state_model.specs.CoefficientList.{total_weight}
@@ -12,7 +13,7 @@ use Rattle.state_model.proofs.Norms.{weight_norm-product}
 use Rattle.state_model.proofs.RegisterLists.{reduced_nonzero}
 use Rattle.amplitude_register.specs.States.{IsKept}
 use Rattle.amplitude_register.proofs.Steps.{x_positive}
-use Rattle.register_merge.proofs.Stored.{long_size}
+use Rattle.omega_ring.specs.Range.{PartsBelow}
 
 -- positive, balanced and below 2^60
 pub record IsRegisterWeight (p : Weight) : Type 0 where
@@ -23,13 +24,16 @@ pub record IsRegisterWeight (p : Weight) : Type 0 where
 pub kept_weight : (a : Amplitudes) (p : Weight) → IsKept a → p ≡ total_weight a.list → IsRegisterWeight p
 kept_weight a p kept e = subst IsRegisterWeight (sym e) record { positive = x_positive a.list (reduced_nonzero a.list kept.normal.reduced); balanced = kept.normal.balanced; small = kept.small }
 
-pub weight_sizes : (p : Weight) → IsRegisterWeight p → (unsigned_abs p.x < 2 ^ 60) × (unsigned_abs p.y < 2 ^ 60)
+pub weight_sizes : (p : Weight) → IsRegisterWeight p → PartsBelow (2 ^ 60) p
 weight_sizes p h = at p.x p.y h.positive h.balanced.high h.balanced.low h.small
   where
-    at : (x y : ℤ) → pos 0 <ℤ x → (y +ℤ y) ≤ℤ x → neg_ℤ (y +ℤ y) ≤ℤ x → x <ℤ pos (2 ^ 60) → (unsigned_abs x < 2 ^ 60) × (unsigned_abs y < 2 ^ 60)
-    at x y h k l m = (omega (arith, ints), omega (arith, ints))
+    at : (x y : ℤ) → pos 0 <ℤ x → (y +ℤ y) ≤ℤ x → neg_ℤ (y +ℤ y) ≤ℤ x → x <ℤ pos (2 ^ 60) → PartsBelow (2 ^ 60) record { x = x; y = y }
+    at x y h k l m = record { x = omega (arith, ints); y = omega (arith, ints) }
 
 -- ---- the product
+long_size : (m n : ℤ) → unsigned_abs m < 2 ^ 60 → unsigned_abs n < 2 ^ 60 → unsigned_abs (m *ℤ n) < 2 ^ 120
+long_size m n p q = rw (unsigned_abs-mul m n) (mul-lt (unsigned_abs m) (unsigned_abs n) (2 ^ 60) (2 ^ 60) p q)
+
 product_low : (p q : Weight) → IsBalanced p → IsBalanced q → neg_ℤ (p.x *ℤ q.x) ≤ℤ (pos 2 *ℤ (p.y *ℤ q.y) +ℤ pos 2 *ℤ (p.y *ℤ q.y))
 product_low p q h k =
     let s = product_not_negative (p.x +ℤ (p.y +ℤ p.y)) (q.x +ℤ (q.y +ℤ q.y)) (let l = h.low in omega (arith, order)) (let l = k.low in omega (arith, order)) in
@@ -89,7 +93,7 @@ product_real p q w h k e = subst IsReal (sym e) record { positive = positive; sm
     positive = at_low (p.x *ℤ q.x) (pos 2 *ℤ (p.y *ℤ q.y)) above low
 
     small : (weight_product p q).x <ℤ pos (2 ^ 122)
-    small = at_high (p.x *ℤ q.x) (pos 2 *ℤ (p.y *ℤ q.y)) (let s = weight_sizes p h in let t = weight_sizes q k in long_size p.x q.x (s.0) (t.0)) high
+    small = at_high (p.x *ℤ q.x) (pos 2 *ℤ (p.y *ℤ q.y)) (let s = weight_sizes p h in let t = weight_sizes q k in long_size p.x q.x s.x t.x) high
 
     real : (pos 2 *ℤ ((weight_product p q).y *ℤ (weight_product p q).y)) <ℤ ((weight_product p q).x *ℤ (weight_product p q).x)
     real = by_norm _ _ (subst (λ (t : ℤ). pos 0 <ℤ t) (sym (weight_norm-product p q)) (product_positive (weight_norm p) (weight_norm q) (norm_positive p h) (norm_positive q k)))

@@ -4,8 +4,8 @@ ghost use Rattle.amplitude_register.specs.States.{draft, zeros};
 ghost use Rattle.register_merge.specs.Merging.{AreApart, CanMerge, IsMerged};
 
 use crate::rows::write_rows;
-use crate::weights::times;
 use amplitude_register::{Reduce, Register};
+use state_model::REGISTER_QUBITS;
 
 /// Prepares the product of two registers that share no qubit: the first's qubits and then the second's, in the
 /// state of both. It fits, as `verdict` tells.
@@ -17,7 +17,7 @@ pub fn prepare_merge(one: &mut Register, two: &Register)
 {
     one.facts();
     two.facts();
-    let weight = times(one.weight(), two.weight());
+    let weight = one.weight().times(two.weight());
     begin_product(one, two);
     write_rows(one, two);
     one.weigh(weight);
@@ -40,11 +40,11 @@ fn begin_product(one: &mut Register, two: &Register)
 }
 
 /// Some numbers and then others, at the front of a list.
-fn joined(first: &[u8], second: &[u8]) -> [u8; 12]
+fn joined(first: &[u8], second: &[u8]) -> [u8; REGISTER_QUBITS]
     requires { length first.now + length second.now ≤ 12 }
     ensures { take (length first.now + length second.now) result ≡ first.now ++ second.now }
 {
-    let mut numbers = [0; 12];
+    let mut numbers = [0; REGISTER_QUBITS];
     let end = first.len() + second.len();
     numbers[..first.len()].copy_from_slice(first);
     numbers[first.len()..end].copy_from_slice(second);

@@ -1,26 +1,8 @@
 //! The rows of a product.
-ghost use Rattle.std.specs.Prelude.{◌≡◌, ◌+◌, ◌*◌, ◌<◌, ◌≤◌, ◌^◌, length};
+ghost use Rattle.std.specs.Prelude.{◌+◌, ◌*◌, ◌<◌, ◌≤◌, length};
 ghost use Rattle.register_merge.specs.Merging.{IsWritten};
 
-use crate::coefficients::product;
 use amplitude_register::Register;
-
-/// The number of rows of so many qubits.
-fn rows_of(count: usize) -> u16
-    requires { count ≤ 12 }
-    ensures { result ≡ 2 ^ count }
-{
-    1 << count
-}
-
-/// The number of the register's rows.
-fn row_count(reg: &Register) -> u16
-    ensures rows { result ≡ length reg.now.value.list }
-    ensures qubits { result ≡ 2 ^ length reg.now.value.qubits }
-{
-    reg.facts();
-    rows_of(reg.qubits().len())
-}
 
 /// Writes the rows of the product into the draft.
 pub(crate) fn write_rows(one: &mut Register, two: &Register)
@@ -28,7 +10,7 @@ pub(crate) fn write_rows(one: &mut Register, two: &Register)
     requires open { IsWritten 0 two.now.value.list one.old one.old }
     ensures { IsWritten (length one.old.value.list * length two.now.value.list) two.now.value.list one.old one.new }
 {
-    for high in 0..row_count(two) {
+    for high in 0..two.row_count() {
         write_block(one, two, high);
     }
 }
@@ -43,9 +25,9 @@ fn write_block(one: &mut Register, two: &Register, high: u16)
     two.facts();
     one.facts();
     let factor = two.coefficient(high);
-    let count = row_count(one);
+    let count = one.row_count();
     for low in 0..count {
-        let z = product(one.coefficient(low), factor);
+        let z = one.coefficient(low).times(factor);
         one.put(count * high + low, z);
     }
 }

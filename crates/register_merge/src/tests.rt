@@ -6,21 +6,11 @@ ghost use Rattle.register_merge.specs.Merging.{AreApart};
 use crate::{Merge, prepare_merge, verdict};
 use amplitude_register::Register;
 use gate_kernels::{Gate, prepare_one};
-use omega_ring::Omega;
+use omega_ring::{Omega, coefficient};
 
-const ZERO: Omega = Omega {
-    a: 0,
-    b: 0,
-    c: 0,
-    d: 0,
-};
+const ZERO: Omega = coefficient!(0, 0, 0, 0);
 
-const ONE: Omega = Omega {
-    a: 1,
-    b: 0,
-    c: 0,
-    d: 0,
-};
+const ONE: Omega = coefficient!(1, 0, 0, 0);
 
 /// Applies a gate to the first qubit.
 fn apply(reg: &mut Register, gate: Gate)

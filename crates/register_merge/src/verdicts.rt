@@ -3,22 +3,19 @@ ghost use Rattle.std.specs.Prelude.{◌≡◌, ◌+◌, ◌++◌, ◌≤ℤ◌, 
 ghost use Rattle.state_model.specs.StateVector.{IsSize};
 ghost use Rattle.register_merge.specs.Merging.{AreApart, IsVerdict, merged};
 
-use crate::weights::times;
 use amplitude_register::Register;
+use state_model::SIZE_LIMIT;
 
 /// What the product of two registers would be.
 #[derive(Clone, Copy, PartialEq, Eq, Debug, Drop)]
 pub enum Merge {
     /// Within the limit of qubits, and of a size below 2^60.
     Fits,
-    /// Of more qubits than the limit.
+    /// Of more qubits than the limit: of how many.
     TooMany { qubits: u8 },
-    /// Within the limit of qubits, and of a size of 2^60 or more.
+    /// Within the limit of qubits, and of a least size of 2^60 or more: of which.
     TooLarge { size: i128 },
 }
-
-/// All sizes are below this.
-const SIZES: i128 = 1 << 60;
 
 /// Tells whether the product of two registers with one limit and no common qubit fits.
 pub fn verdict(one: &Register, two: &Register) -> Merge
@@ -31,7 +28,7 @@ pub fn verdict(one: &Register, two: &Register) -> Merge
         return Merge::TooMany { qubits };
     }
     let size = product_size(one, two);
-    if size < SIZES {
+    if size < SIZE_LIMIT {
         Merge::Fits
     } else {
         Merge::TooLarge { size }
@@ -55,5 +52,5 @@ fn product_size(one: &Register, two: &Register) -> i128
 {
     one.facts();
     two.facts();
-    times(one.weight(), two.weight()).balance().weight.x
+    one.weight().times(two.weight()).balance().weight.x
 }

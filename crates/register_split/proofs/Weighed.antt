@@ -10,10 +10,8 @@ use Rattle.state_model.proofs.Inequalities.{order}
 use Rattle.state_model.proofs.KeptLists.{counted}
 use Rattle.state_model.proofs.RegisterSums.{weight_to, weight_to-total, weight_sum-none, weight_sum_comm}
 use Rattle.state_model.proofs.Units.{x_not_negative}
-use Rattle.amplitude_register.proofs.Sums.{IsReal, real_weight, entry_below}
-
-add_real : (v w : Weight) → IsReal v → IsReal w → IsReal (weight_sum v w)
-add_real v w h k = record { positive = omega (arith, order, h.positive, k.positive); above = omega (arith, order, h.above, k.above); below = omega (arith, order, h.below, k.below) }
+use Rattle.omega_ring.specs.Range.{PartsBelow}
+use Rattle.amplitude_register.proofs.Sums.{IsReal, real_add, real_weight, entry_below}
 
 -- the sum of the weights of the first n
 abbrev pub sum_of : (ℕ → Coefficient) → ℕ → Weight
@@ -22,7 +20,7 @@ sum_of u n = weight_to (λ i. weight (u i)) n
 sum_real : (u : ℕ → Coefficient) (n : ℕ) → IsReal (sum_of u n)
 unfolding weight_to
 sum_real u zero = record { positive = omega (arith, order); above = omega (arith, order); below = omega (arith, order) }
-sum_real u (suc n) = add_real (sum_of u n) (weight (u n)) (sum_real u n) (real_weight (u n))
+sum_real u (suc n) = real_add (sum_of u n) (weight (u n)) (sum_real u n) (real_weight (u n))
 
 pub sum_more : (u : ℕ → Coefficient) (n : ℕ) → sum_of u (n + 1) ≡ weight_sum (sum_of u n) (weight (u n))
 unfolding weight_to
@@ -73,12 +71,8 @@ counted_below j list (suc n) = both _ _ _ _ (counted_below j list n) (one (is_se
     both : (x y p q : ℤ) → x ≤ℤ y → p ≤ℤ q → (x +ℤ p) ≤ℤ (y +ℤ q)
     both x y p q h k = omega (arith, order)
 
--- both numbers of a weight are small
-abbrev pub IsSmallWeight : Weight → Type 0
-IsSmallWeight w = (unsigned_abs w.x < 2 ^ 60) × (unsigned_abs w.y < 2 ^ 60)
-
-small_real : (w : Weight) → IsReal w → w.x <ℤ pos (2 ^ 60) → IsSmallWeight w
-small_real w r h = (abs_x w.x r.positive h, abs_y w.x w.y r.above r.below h)
+small_real : (w : Weight) → IsReal w → w.x <ℤ pos (2 ^ 60) → PartsBelow (2 ^ 60) w
+small_real w r h = record { x = abs_x w.x r.positive h; y = abs_y w.x w.y r.above r.below h }
   where
     abs_x : (x : ℤ) → pos 0 ≤ℤ x → x <ℤ pos (2 ^ 60) → unsigned_abs x < 2 ^ 60
     abs_x x h k = omega (arith, ints)
@@ -92,17 +86,17 @@ below x y h k = omega (arith, order)
 whole_x : (list : List Coefficient) (n : ℕ) → n ≤ length list → (total_weight list).x <ℤ pos (2 ^ 60) → (sum_of (at list) n).x <ℤ pos (2 ^ 60)
 whole_x list n l h = below _ _ (sum_grows (at list) n (length list) l) (subst (λ (w : Weight). w.x <ℤ pos (2 ^ 60)) (sym (weight_to-total list)) h)
 
-pub whole_small : (list : List Coefficient) (w : Weight) → (total_weight list).x <ℤ pos (2 ^ 60) → w ≡ total_weight list → IsSmallWeight w
-whole_small list w h e = subst IsSmallWeight (sym e) (small_real (total_weight list) (subst IsReal (weight_to-total list) (sum_real (at list) (length list))) h)
+pub whole_small : (list : List Coefficient) (w : Weight) → (total_weight list).x <ℤ pos (2 ^ 60) → w ≡ total_weight list → PartsBelow (2 ^ 60) w
+whole_small list w h e = subst (PartsBelow (2 ^ 60)) (sym e) (small_real (total_weight list) (subst IsReal (weight_to-total list) (sum_real (at list) (length list))) h)
 
-pub one_small : (j : ℕ) (list : List Coefficient) (n : ℕ) (w : Weight) → n ≤ length list → (total_weight list).x <ℤ pos (2 ^ 60) → w ≡ sum_of (counted j list) n → IsSmallWeight w
-one_small j list n w l h e = subst IsSmallWeight (sym e) (small_real (sum_of (counted j list) n) (sum_real (counted j list) n) (below _ _ (counted_below j list n) (whole_x list n l h)))
+pub one_small : (j : ℕ) (list : List Coefficient) (n : ℕ) (w : Weight) → n ≤ length list → (total_weight list).x <ℤ pos (2 ^ 60) → w ≡ sum_of (counted j list) n → PartsBelow (2 ^ 60) w
+one_small j list n w l h e = subst (PartsBelow (2 ^ 60)) (sym e) (small_real (sum_of (counted j list) n) (sum_real (counted j list) n) (below _ _ (counted_below j list n) (whole_x list n l h)))
 
 pub entry_small : (list : List Coefficient) (i : ℕ) (z : Coefficient) → (total_weight list).x <ℤ pos (2 ^ 60) → z ≡ at list i → (weight z).x <ℤ pos (2 ^ 60)
 entry_small list i z h e = subst (λ (t : Coefficient). (weight t).x <ℤ pos (2 ^ 60)) (sym e) (below _ _ (entry_below list i) h)
 
-pub weight_small : (z : Coefficient) (w : Weight) → (weight z).x <ℤ pos (2 ^ 60) → w ≡ weight z → IsSmallWeight w
-weight_small z w h e = subst IsSmallWeight (sym e) (small_real (weight z) (real_weight z) h)
+pub weight_small : (z : Coefficient) (w : Weight) → (weight z).x <ℤ pos (2 ^ 60) → w ≡ weight z → PartsBelow (2 ^ 60) w
+weight_small z w h e = subst (PartsBelow (2 ^ 60)) (sym e) (small_real (weight z) (real_weight z) h)
 
 -- ---- one more row
 pub one_counts : (j : ℕ) (list : List Coefficient) (n : ℕ) (z : Coefficient) (v w : Weight) → is_set j n ≡ true → v ≡ sum_of (counted j list) n → z ≡ at list n → w ≡ weight_sum v (weight z) → w ≡ sum_of (counted j list) (n + 1)

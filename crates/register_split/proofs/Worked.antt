@@ -1,5 +1,5 @@
 -- A pair has a row with a 1.
-use Rattle.std.proofs.Common.{◌≡◌, true}
+use Rattle.std.proofs.Common.{true}
 use Rattle.state_model.specs.Row.{is_set, with_bit, mask, within}
 use Rattle.state_model.specs.Registers.{register_row, register_vector}
 use Rattle.state_model.specs.Measurement.{keep}

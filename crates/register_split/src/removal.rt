@@ -5,8 +5,9 @@ ghost use Rattle.state_model.specs.Amplitudes.{qubit_at, AreDistinct};
 ghost use Rattle.amplitude_register.specs.States.{draft, zeros};
 ghost use Rattle.register_split.specs.Removal.{HasRowWith, IsTakenOut, IsDrafted};
 
-use crate::rows::{row_count, with_inserted};
+use crate::rows::with_inserted;
 use amplitude_register::{Reduce, Register};
+use state_model::REGISTER_QUBITS;
 
 /// Prepares what stays of the register's value when its qubit at a place is taken out with a bit: the other
 /// qubits in their order, in the state of the rows with that bit. Some such row isn't zero. It can't be too large.
@@ -35,13 +36,13 @@ fn begin_others(reg: &mut Register, place: u8)
 }
 
 /// The numbers but that at the place, at the front of a list.
-fn others(qubits: &[u8], place: u8) -> [u8; 12]
+fn others(qubits: &[u8], place: u8) -> [u8; REGISTER_QUBITS]
     requires place { place < length qubits.now }
     requires few { length qubits.now ≤ 12 }
     requires distinct { AreDistinct qubits.now }
     ensures { take (length qubits.now - 1) result ≡ without qubits.now (slice_index_or qubits.now place 0) }
 {
-    let mut rest = [0; 12];
+    let mut rest = [0; REGISTER_QUBITS];
     for k in 0..qubits.len() - 1 {
         rest[k] = qubits[other_place(k, place)];
     }
@@ -65,7 +66,7 @@ fn copy_rows(reg: &mut Register, place: u8, bit: bool)
     ensures { IsDrafted place bit reg.old reg.new }
 {
     reg.facts();
-    for row in 0..row_count(reg) / 2 {
+    for row in 0..reg.row_count() / 2 {
         let z = reg.coefficient(with_inserted(row, place, bit));
         reg.put(row, z);
     }

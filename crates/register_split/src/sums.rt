@@ -4,15 +4,17 @@ ghost use Rattle.state_model.specs.Coefficient.{weight, weight_sum};
 ghost use Rattle.state_model.specs.Measurement.{one_weight, whole_weight};
 ghost use Rattle.state_model.specs.Amplitudes.{vector_of, qubit_at};
 ghost use Rattle.omega_ring.specs.Views.{omega_value, weight_value};
+ghost use Rattle.omega_ring.specs.Range.{PartsBelow};
 
-use crate::rows::{has_bit, row_count};
-use amplitude_register::Register;
+use amplitude_register::{Register, has_bit};
 use omega_ring::{Omega, Weight};
 
 /// The weight of the rows with the bit 1, and that of all rows. Their quotient is the probability of a 1.
 #[derive(Clone, Copy, PartialEq, Eq, Debug, Drop)]
 pub struct Split {
+    /// The weight of the rows with the bit 1.
     pub one: Weight,
+    /// The weight of all rows.
     pub whole: Weight,
 }
 
@@ -41,13 +43,12 @@ pub fn weights(reg: &Register, place: u8) -> Split
 fn weight_of_ones(reg: &Register, place: u8) -> Weight
     requires { place < length reg.now.value.qubits }
     ensures weight { weight_value result ≡ one_weight reg.now.value.qubits (vector_of reg.now.value) (qubit_at reg.now.value place) }
-    ensures x { unsigned_abs result.x < 2 ^ 60 }
-    ensures y { unsigned_abs result.y < 2 ^ 60 }
+    ensures small { PartsBelow (2 ^ 60) (weight_value result) }
 {
     reg.facts();
     let mut one = NONE;
-    for row in 0..row_count(reg) {
-        if has_bit(row, place) {
+    for row in 0..reg.row_count() {
+        if has_bit(row as usize, place) {
             one = added(one, reg.coefficient(row));
         }
     }
@@ -56,25 +57,9 @@ fn weight_of_ones(reg: &Register, place: u8) -> Weight
 
 /// The sum with a coefficient's weight.
 fn added(sum: Weight, z: Omega) -> Weight
-    requires x { unsigned_abs sum.x < 2 ^ 60 }
-    requires y { unsigned_abs sum.y < 2 ^ 60 }
+    requires sum { PartsBelow (2 ^ 60) (weight_value sum) }
     requires small { (weight (omega_value z)).x <ℤ pos (2 ^ 60) }
     ensures { weight_value result ≡ weight_sum (weight_value sum) (weight (omega_value z)) }
 {
-    let more = z.wide().weight();
-    plus(sum, more)
-}
-
-/// The sum of two weights.
-fn plus(one: Weight, two: Weight) -> Weight
-    requires one_x { unsigned_abs one.x < 2 ^ 60 }
-    requires one_y { unsigned_abs one.y < 2 ^ 60 }
-    requires two_x { unsigned_abs two.x < 2 ^ 60 }
-    requires two_y { unsigned_abs two.y < 2 ^ 60 }
-    ensures { weight_value result ≡ weight_sum (weight_value one) (weight_value two) }
-{
-    Weight {
-        x: one.x + two.x,
-        y: one.y + two.y,
-    }
+    sum.plus(z.wide().weight())
 }

@@ -1,14 +1,9 @@
 //! Worked measurements.
 use crate::{prepare_take_out, weights};
 use amplitude_register::{Reduce, Register};
-use omega_ring::{Omega, Weight};
+use omega_ring::{Omega, Weight, coefficient};
 
-const ZERO: Omega = Omega {
-    a: 0,
-    b: 0,
-    c: 0,
-    d: 0,
-};
+const ZERO: Omega = coefficient!(0, 0, 0, 0);
 
 /// The two coefficients of a register of one qubit.
 fn rows(reg: &Register) -> (Omega, Omega) {
@@ -45,18 +40,8 @@ fn a_pair_leaves_a_qubit_in_the_measured_state(rt: HostRuntime) {
 #[test]
 fn a_turn_between_hadamards_weighs_four_and_two(rt: HostRuntime) {
     let mut reg = Register::new(rt.alloc(), 1).expect(&rt, "memory");
-    let zero = Omega {
-        a: 0,
-        b: 1,
-        c: 1,
-        d: 1,
-    };
-    let one = Omega {
-        a: 1,
-        b: 0,
-        c: 0,
-        d: 0,
-    };
+    let zero = coefficient!(0, 1, 1, 1);
+    let one = coefficient!(1, 0, 0, 0);
     reg.begin(&[3]);
     reg.put(0, zero);
     reg.put(1, one);
@@ -76,18 +61,8 @@ fn a_turn_between_hadamards_weighs_four_and_two(rt: HostRuntime) {
 fn a_quarter_stays_a_quarter_when_balanced(rt: HostRuntime) {
     // the draft weighs (12, 8) and its second row (3, 2)
     let mut reg = Register::new(rt.alloc(), 1).expect(&rt, "memory");
-    let zero = Omega {
-        a: -2,
-        b: 0,
-        c: 1,
-        d: 2,
-    };
-    let one = Omega {
-        a: -1,
-        b: -1,
-        c: 0,
-        d: 1,
-    };
+    let zero = coefficient!(-2, 0, 1, 2);
+    let one = coefficient!(-1, -1, 0, 1);
     reg.begin(&[3]);
     reg.put(0, zero);
     reg.put(1, one);

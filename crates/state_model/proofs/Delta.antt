@@ -1,11 +1,11 @@
--- Products with 1 - w and with the units √2 + 1 and √2 - 1.
-use Rattle.std.proofs.Common.{◌≡◌, ℤ, pos, ◌+ℤ◌, ◌-ℤ◌, neg_ℤ, refl, sym, ◌∙◌, arith, []}
-use Rattle.state_model.specs.Coefficient.{Coefficient, ◌⊗◌}
-use Rattle.state_model.specs.Divisors.{Divides, delta, unit_up, unit_down}
+-- Products with 1 - w, 1 + w and the units √2 + 1 and √2 - 1, coordinate by coordinate, and when 1 - w divides.
+use Rattle.std.proofs.Common.{◌≡◌, ℤ, pos, ◌+ℤ◌, ◌-ℤ◌, neg_ℤ, refl, sym, ap, ◌∙◌, arith, [], ◌∷◌}
+use Rattle.state_model.specs.Coefficient.{Coefficient, ◌⊗◌, Weight}
+use Rattle.state_model.specs.Divisors.{Divides, weight_product, delta, delta_conjugate, both_deltas, unit_up, unit_down}
 use Rattle.state_model.specs.Quotients.{IsEven}
 use Rattle.state_model.proofs.Ring.{same_coordinates}
 use Rattle.state_model.proofs.Polynomial.{Term, number, plus, minus, less}
-use Rattle.state_model.proofs.Expressions.{quad, mul_quad, equal_quads, coordinates}
+use Rattle.state_model.proofs.Expressions.{quad, pair, mul_quad, mul_pair, equal_quads, equal_pairs, coordinates}
 use Rattle.state_model.proofs.Inequalities.{order}
 
 abbrev one : Term
@@ -19,18 +19,45 @@ pub ⊗-delta : (q : Coefficient) → q ⊗ delta ≡ record { a = q.a +ℤ q.d;
     let z = quad 0 in
     equal_quads (coordinates q []) (mul_quad z record { a = one; b = minus one; c = nought; d = nought }) record { a = plus z.a z.d; b = less z.b z.a; c = less z.c z.b; d = less z.d z.c } refl refl refl refl
 
-pub ⊗-unit_up : (z : Coefficient) → z ⊗ unit_up ≡ record { a = z.a +ℤ z.b +ℤ neg_ℤ z.d +ℤ pos 0; b = z.a +ℤ z.b +ℤ z.c +ℤ pos 0; c = z.b +ℤ z.c +ℤ z.d +ℤ pos 0; d = z.c +ℤ z.d +ℤ neg_ℤ z.a +ℤ pos 0 }
+pub ⊗-delta_conjugate : (q : Coefficient) → q ⊗ delta_conjugate ≡ record { a = q.a -ℤ q.d; b = q.b +ℤ q.a; c = q.c +ℤ q.b; d = q.d +ℤ q.c }
+⊗-delta_conjugate q =
+    let z = quad 0 in
+    equal_quads (coordinates q []) (mul_quad z record { a = one; b = one; c = nought; d = nought }) record { a = less z.a z.d; b = plus z.b z.a; c = plus z.c z.b; d = plus z.d z.c } refl refl refl refl
+
+pub ⊗-both_deltas : (q : Coefficient) → q ⊗ both_deltas ≡ record { a = q.a +ℤ q.c; b = q.b +ℤ q.d; c = q.c -ℤ q.a; d = q.d -ℤ q.b }
+⊗-both_deltas q =
+    let z = quad 0 in
+    equal_quads (coordinates q []) (mul_quad z record { a = one; b = nought; c = minus one; d = nought }) record { a = plus z.a z.c; b = plus z.b z.d; c = less z.c z.a; d = less z.d z.b } refl refl refl refl
+
+pub ⊗-unit_up : (z : Coefficient) → z ⊗ unit_up ≡ record { a = z.a +ℤ z.b -ℤ z.d; b = z.a +ℤ z.b +ℤ z.c; c = z.b +ℤ z.c +ℤ z.d; d = z.c +ℤ z.d -ℤ z.a }
 ⊗-unit_up z =
     let t = quad 0 in
     equal_quads (coordinates z []) (mul_quad t record { a = one; b = one; c = nought; d = minus one })
-    record { a = plus (plus (plus t.a t.b) (minus t.d)) nought; b = plus (plus (plus t.a t.b) t.c) nought; c = plus (plus (plus t.b t.c) t.d) nought; d = plus (plus (plus t.c t.d) (minus t.a)) nought } refl refl refl refl
+    record { a = less (plus t.a t.b) t.d; b = plus (plus t.a t.b) t.c; c = plus (plus t.b t.c) t.d; d = less (plus t.c t.d) t.a } refl refl refl refl
 
-pub ⊗-unit_down : (z : Coefficient) → z ⊗ unit_down ≡ record { a = z.b +ℤ neg_ℤ z.a +ℤ neg_ℤ z.d +ℤ pos 0; b = z.a +ℤ z.c +ℤ neg_ℤ z.b +ℤ pos 0; c = z.b +ℤ z.d +ℤ neg_ℤ z.c +ℤ pos 0; d = z.c +ℤ neg_ℤ z.a +ℤ neg_ℤ z.d +ℤ pos 0 }
+pub ⊗-unit_down : (z : Coefficient) → z ⊗ unit_down ≡ record { a = z.b -ℤ z.a -ℤ z.d; b = z.a -ℤ z.b +ℤ z.c; c = z.b -ℤ z.c +ℤ z.d; d = z.c -ℤ z.a -ℤ z.d }
 ⊗-unit_down z =
     let t = quad 0 in
     equal_quads (coordinates z []) (mul_quad t record { a = minus one; b = one; c = nought; d = minus one })
-    record { a = plus (plus (plus t.b (minus t.a)) (minus t.d)) nought; b = plus (plus (plus t.a t.c) (minus t.b)) nought; c = plus (plus (plus t.b t.d) (minus t.c)) nought; d = plus (plus (plus t.c (minus t.a)) (minus t.d)) nought } refl refl refl refl
+    record { a = less (less t.b t.a) t.d; b = plus (less t.a t.b) t.c; c = plus (less t.b t.c) t.d; d = less (less t.c t.a) t.d } refl refl refl refl
 
+-- ---- weights times those of 1 - w^2, 1 + w and 1 - w
+pub product-both : (v : Weight) → weight_product v record { x = pos 2; y = pos 0 } ≡ record { x = v.x +ℤ v.x; y = v.y +ℤ v.y }
+product-both v =
+    let t = pair 0 in
+    equal_pairs (v.x ∷ v.y ∷ []) (mul_pair t record { x = number (pos 2); y = nought }) record { x = plus t.x t.x; y = plus t.y t.y } refl refl
+
+pub product-conjugate : (v : Weight) → weight_product v record { x = pos 2; y = pos 1 } ≡ record { x = v.x +ℤ v.x +ℤ v.y +ℤ v.y; y = v.x +ℤ v.y +ℤ v.y }
+product-conjugate v =
+    let t = pair 0 in
+    equal_pairs (v.x ∷ v.y ∷ []) (mul_pair t record { x = number (pos 2); y = one }) record { x = plus (plus (plus t.x t.x) t.y) t.y; y = plus (plus t.x t.y) t.y } refl refl
+
+pub product-delta : (v : Weight) → weight_product v record { x = pos 2; y = neg_ℤ (pos 1) } ≡ record { x = v.x +ℤ v.x -ℤ v.y -ℤ v.y; y = v.y +ℤ v.y -ℤ v.x }
+product-delta v =
+    let t = pair 0 in
+    equal_pairs (v.x ∷ v.y ∷ []) (mul_pair t record { x = number (pos 2); y = minus one }) record { x = less (less (plus t.x t.x) t.y) t.y; y = less (plus t.y t.y) t.x } refl refl
+
+-- ---- divisors
 -- 1 - w divides exactly where the sum of the coordinates is even
 pub even_from_divides : (z : Coefficient) → Divides delta z → IsEven (z.a +ℤ z.b +ℤ z.c +ℤ z.d)
 even_from_divides z (q, e) = (q.d, go (e ∙ ⊗-delta q))
@@ -43,15 +70,47 @@ even_from_divides z (q, e) = (q.d, go (e ∙ ⊗-delta q))
         let d : z.d ≡ q.d -ℤ q.c = λ i. (f i).d in
         omega (arith, order)
 
--- the quotient, where k is half the sum
-abbrev pub quotient_of : Coefficient → ℤ → Coefficient
-quotient_of z k = record { a = k +ℤ neg_ℤ z.b +ℤ neg_ℤ z.c +ℤ neg_ℤ z.d; b = k +ℤ neg_ℤ z.c +ℤ neg_ℤ z.d +ℤ pos 0; c = k +ℤ neg_ℤ z.d +ℤ pos 0 +ℤ pos 0; d = k }
+-- the quotient by 1 - w, where h is half the sum
+abbrev pub delta_quotient : Coefficient → ℤ → Coefficient
+delta_quotient z h = record { a = z.a -ℤ h; b = z.b +ℤ (z.a -ℤ h); c = z.c +ℤ (z.b +ℤ (z.a -ℤ h)); d = h }
 
-pub quotient_is : (z : Coefficient) (k : ℤ) → z.a +ℤ z.b +ℤ z.c +ℤ z.d ≡ k +ℤ k → z ≡ quotient_of z k ⊗ delta
-quotient_is z k e =
-    same_coordinates z record { a = (quotient_of z k).a +ℤ (quotient_of z k).d; b = (quotient_of z k).b -ℤ (quotient_of z k).a; c = (quotient_of z k).c -ℤ (quotient_of z k).b; d = (quotient_of z k).d -ℤ (quotient_of z k).c }
-    (omega (arith, order)) (omega (arith, order)) (omega (arith, order)) (omega (arith, order))
-    ∙ sym (⊗-delta (quotient_of z k))
+pub delta_quotient_is : (z : Coefficient) (h : ℤ) → z.a +ℤ z.b +ℤ z.c +ℤ z.d ≡ h +ℤ h → z ≡ delta_quotient z h ⊗ delta
+delta_quotient_is z h e =
+    let q = delta_quotient z h in
+    same_coordinates z record { a = q.a +ℤ q.d; b = q.b -ℤ q.a; c = q.c -ℤ q.b; d = q.d -ℤ q.c } (omega (arith, order)) (omega (arith, order)) (omega (arith, order)) (omega (arith, order))
+    ∙ sym (⊗-delta q)
 
 pub divides_from_even : (z : Coefficient) → IsEven (z.a +ℤ z.b +ℤ z.c +ℤ z.d) → Divides delta z
-divides_from_even z (k, e) = (quotient_of z k, quotient_is z k e)
+divides_from_even z (h, e) = (delta_quotient z h, delta_quotient_is z h e)
+
+-- the quotient by 1 + w, where h is half the sum
+abbrev pub conjugate_quotient : Coefficient → ℤ → Coefficient
+conjugate_quotient z h = record { a = h -ℤ z.c; b = z.b -ℤ (h -ℤ z.c); c = z.c -ℤ (z.b -ℤ (h -ℤ z.c)); d = z.d -ℤ (z.c -ℤ (z.b -ℤ (h -ℤ z.c))) }
+
+pub conjugate_quotient_is : (z : Coefficient) (h : ℤ) → z.a +ℤ z.b +ℤ z.c +ℤ z.d ≡ h +ℤ h → z ≡ conjugate_quotient z h ⊗ delta_conjugate
+conjugate_quotient_is z h e =
+    let q = conjugate_quotient z h in
+    same_coordinates z record { a = q.a -ℤ q.d; b = q.b +ℤ q.a; c = q.c +ℤ q.b; d = q.d +ℤ q.c } (omega (arith, order)) (omega (arith, order)) (omega (arith, order)) (omega (arith, order))
+    ∙ sym (⊗-delta_conjugate q)
+
+-- the quotient by 1 - w^2, where h and k are half the differences of the coordinates in turn
+abbrev pub both_quotient : Coefficient → ℤ → ℤ → Coefficient
+both_quotient z h k = record { a = h; b = k; c = z.a -ℤ h; d = z.b -ℤ k }
+
+pub both_quotient_is : (z : Coefficient) (h k : ℤ) → z.a -ℤ z.c ≡ h +ℤ h → z.b -ℤ z.d ≡ k +ℤ k → z ≡ both_quotient z h k ⊗ both_deltas
+both_quotient_is z h k e f =
+    let q = both_quotient z h k in
+    same_coordinates z record { a = q.a +ℤ q.c; b = q.b +ℤ q.d; c = q.c -ℤ q.a; d = q.d -ℤ q.b } (omega (arith, order)) (omega (arith, order)) (omega (arith, order)) (omega (arith, order))
+    ∙ sym (⊗-both_deltas q)
+
+-- 1 - w^2 divides exactly where the coordinates in turn agree in parity
+pub both_even : (z : Coefficient) → Divides both_deltas z → IsEven (z.a -ℤ z.c) × IsEven (z.b -ℤ z.d)
+both_even z d =
+    let q = d.0 in let e = d.1 ∙ ⊗-both_deltas q in
+    ((q.a, twice z.a z.c q.a q.c (ap (λ (t : Coefficient). t.a) e) (ap (λ (t : Coefficient). t.c) e)), (q.b, twice z.b z.d q.b q.d (ap (λ (t : Coefficient). t.b) e) (ap (λ (t : Coefficient). t.d) e)))
+  where
+    twice : (x y p r : ℤ) → x ≡ p +ℤ r → y ≡ r -ℤ p → x -ℤ y ≡ p +ℤ p
+    twice x y p r e f = omega (arith, order)
+
+pub even_both : (z : Coefficient) → IsEven (z.a -ℤ z.c) → IsEven (z.b -ℤ z.d) → Divides both_deltas z
+even_both z (h, e) (k, f) = (both_quotient z h k, both_quotient_is z h k e f)

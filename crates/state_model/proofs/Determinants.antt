@@ -68,42 +68,14 @@ determinant_of (RotX k) = (root k ⊕ root k) ⊕ (root k ⊕ root k)
 determinant_of (RotY k) = (root k ⊕ root k) ⊕ (root k ⊕ root k)
 determinant_of (RotZ k) = root k
 
-determinant_is-I : determinant (matrix I) ≡ determinant_of I
-unfolding determinant determinant_of matrix imaginary root
-determinant_is-I = refl
-
-determinant_is-X : determinant (matrix X) ≡ determinant_of X
-unfolding determinant determinant_of matrix imaginary root
-determinant_is-X = refl
-
-determinant_is-Y : determinant (matrix Y) ≡ determinant_of Y
-unfolding determinant determinant_of matrix imaginary root
-determinant_is-Y = refl
-
-determinant_is-Z : determinant (matrix Z) ≡ determinant_of Z
-unfolding determinant determinant_of matrix imaginary root
-determinant_is-Z = refl
-
-determinant_is-T : determinant (matrix T) ≡ determinant_of T
-unfolding determinant determinant_of matrix imaginary root
-determinant_is-T = refl
-
-determinant_is-H : determinant (matrix H) ≡ determinant_of H
-unfolding determinant determinant_of matrix imaginary root
-determinant_is-H = refl
-
-determinant_is-K : determinant (matrix K) ≡ determinant_of K
-unfolding determinant determinant_of matrix imaginary root
-determinant_is-K = refl
-
 pub determinant_is : (g : Gate) → determinant (matrix g) ≡ determinant_of g
-determinant_is I = determinant_is-I
-determinant_is X = determinant_is-X
-determinant_is Y = determinant_is-Y
-determinant_is Z = determinant_is-Z
-determinant_is T = determinant_is-T
-determinant_is H = determinant_is-H
-determinant_is K = determinant_is-K
+determinant_is I = unfold determinant determinant_of matrix imaginary root in refl
+determinant_is X = unfold determinant determinant_of matrix imaginary root in refl
+determinant_is Y = unfold determinant determinant_of matrix imaginary root in refl
+determinant_is Z = unfold determinant determinant_of matrix imaginary root in refl
+determinant_is T = unfold determinant determinant_of matrix imaginary root in refl
+determinant_is H = unfold determinant determinant_of matrix imaginary root in refl
+determinant_is K = unfold determinant determinant_of matrix imaginary root in refl
 determinant_is (RotX k) = unfold determinant matrix determinant_of in four_times (root k)
 determinant_is (RotY k) = unfold determinant matrix determinant_of in (ap (λ t. (one_coefficient ⊕ root k) ⊗ (one_coefficient ⊕ root k) ⊕ negated t) (turned_back (one_coefficient ⊕ negated (root k)) (one_coefficient ⊕ negated (root k))) ∙ four_times (root k))
 determinant_is (RotZ k) = unfold determinant matrix determinant_of in diagonal (root k)

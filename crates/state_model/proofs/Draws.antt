@@ -12,7 +12,7 @@ use Rattle.state_model.proofs.SameStates.{exchange, stable}
 use Rattle.state_model.proofs.Order.{IsAbove, product_x, product_y, real-⊗, positive-product}
 
 -- the product of two weights
-pub times : Weight → Weight → Weight
+unfoldable pub times : Weight → Weight → Weight
 times p q = record { x = product_x p.x p.y q.x q.y; y = product_y p.x p.y q.x q.y }
 
 pub same_weight : (p q : Weight) → p.x ≡ q.x → p.y ≡ q.y → p ≡ q
@@ -32,7 +32,7 @@ weight-⊗ y z =
     let f = real_same _ _ _ _ e in
     same_weight _ _ (f.0) (f.1)
 
-times-sum : (p q r : Weight) → times (weight_sum p q) r ≡ weight_sum (times p r) (times q r)
+pub times-sum : (p q r : Weight) → times (weight_sum p q) r ≡ weight_sum (times p r) (times q r)
 unfolding times product_x product_y
 times-sum p q r = same_weight _ _ (simp expand (omega (arith, same_in, sum_is_lem))) (simp expand (omega (arith, same_in, sum_is_lem)))
 

@@ -40,16 +40,16 @@ sum_natural n m p q f g = record {
 }
 
 -- the sum of the squares of the listed rows
-sum_squares : Vector → List ℕ → ℕ
+unfoldable pub sum_squares : Vector → List ℕ → ℕ
 sum_squares v [] = 0
 sum_squares v (x ∷ xs) = squares (v x) + sum_squares v xs
 
-weights_natural : (v : Vector) (xs : List ℕ) → IsNatural (sum_squares v xs) (weight_of v xs)
+pub weights_natural : (v : Vector) (xs : List ℕ) → IsNatural (sum_squares v xs) (weight_of v xs)
 unfolding weight_of sum_squares
 weights_natural v [] = record { x = refl; y = omega arith }
 weights_natural v (x ∷ xs) = sum_natural _ _ _ _ (record { x = square_sum (v x); y = y_below (v x) }) (weights_natural v xs)
 
-no_sum : (v : Vector) (xs : List ℕ) (x : ℕ) → is_listed xs x ≡ true → sum_squares v xs ≡ 0 → v x ≡ zero_coefficient
+pub no_sum : (v : Vector) (xs : List ℕ) (x : ℕ) → is_listed xs x ≡ true → sum_squares v xs ≡ 0 → v x ≡ zero_coefficient
 unfolding sum_squares is_listed
 no_sum v [] x h e = cc
 no_sum v (y ∷ xs) x h e = by (λ g. no_sum v xs x g (rest (squares (v y)) (sum_squares v xs) e)) (y == x) refl
@@ -147,7 +147,7 @@ negative n w f (inl h) = let a = h.0 in let b = f.x in omega (arith, ints)
 negative n w f (inr h) = natural_norm n w f (subst (λ (z : ℤ). z <ℤ pos 0) (norm-neg w.x w.y) (h.1))
 
 -- such a weight with n above 0 is positive
-positive : (n : ℕ) (w : Weight) → IsNatural n w → ¬ (n ≡ 0) → IsAbove w.x w.y
+pub positive : (n : ℕ) (w : Weight) → IsNatural n w → ¬ (n ≡ 0) → IsAbove w.x w.y
 unfolding IsAbove
 positive n w f some = inl (
   (let a = f.x in omega (arith, ints)),

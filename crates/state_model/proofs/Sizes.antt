@@ -119,7 +119,7 @@ join : (a b c d : ℕ) → b ≡ c + d → a + b ≡ (a + c) + d
 join a b c d e = omega arith
 
 -- bits of different qubits are set in any order
-with_bit_swap : (p : ℕ) (b : Bool) (q : ℕ) (c : Bool) (x : ℕ) → p ≢ q → with_bit p b (with_bit q c x) ≡ with_bit q c (with_bit p b x)
+pub with_bit_swap : (p : ℕ) (b : Bool) (q : ℕ) (c : Bool) (x : ℕ) → p ≢ q → with_bit p b (with_bit q c x) ≡ with_bit q c (with_bit p b x)
 with_bit_swap p b q c x apart = same_row _ _ (λ r. at r (r == p) refl (r == q) refl)
   where
     at : (r : ℕ) (s : Bool) → (r == p) ≡ s → (t : Bool) → (r == q) ≡ t → is_set r (with_bit p b (with_bit q c x)) ≡ is_set r (with_bit q c (with_bit p b x))

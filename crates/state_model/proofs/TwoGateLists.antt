@@ -109,7 +109,7 @@ two_total k i j n xs ys apart l e f is =
 pub negated_twice : (z : Coefficient) → negated (negated z) ≡ z
 negated_twice z = same_coordinates _ _ (omega (arith, ints)) (omega (arith, ints)) (omega (arith, ints)) (omega (arith, ints))
 
-divides_negated : (u z : Coefficient) → Divides u (negated z) → Divides u z
+pub divides_negated : (u z : Coefficient) → Divides u (negated z) → Divides u z
 divides_negated u z d = (negated (d.0), sym (negated_twice z) ∙ ap negated (d.1) ∙ sym (negated_times (d.0) u))
 
 pub two_reduced : (k : Two) (i j : ℕ) (xs ys : List Coefficient) → i ≢ j → IsTwoGateList k i j xs ys → IsReduced xs → IsReduced ys

@@ -1,5 +1,5 @@
 -- Products with the units √2 + 1 and √2 - 1: weights, divisors and norms.
-use Rattle.std.proofs.Common.{◌≡◌, ◌<◌, ℤ, pos, ◌+ℤ◌, ◌-ℤ◌, ◌*ℤ◌, neg_ℤ, ◌≤ℤ◌, ◌<ℤ◌, nat_abs, refl, ◌∙◌, arith, [], ◌∷◌}
+use Rattle.std.proofs.Common.{◌≡◌, ◌<◌, ℤ, pos, ◌+ℤ◌, ◌-ℤ◌, ◌*ℤ◌, neg_ℤ, ◌≤ℤ◌, ◌<ℤ◌, nat_abs, refl, ap, ◌∙◌, arith, [], ◌∷◌}
 use borrow.Author.Differences.{ints}
 use Rattle.state_model.specs.Coefficient.{Coefficient, ◌⊗◌, weight}
 use Rattle.state_model.specs.Divisors.{norm, unit_up, unit_down}
@@ -69,33 +69,20 @@ back_up z = let t = quad 0 in equal_quads (coordinates z []) t (mul_quad down_qu
 times_one : (n : ℤ) → n *ℤ pos 1 ≡ n
 times_one n = equal (n ∷ []) (times (var 0) (number (pos 1))) (var 0) refl
 
-step_down_at : (z : Coefficient) → (weight z).x <ℤ ((weight z).y +ℤ (weight z).y) → IsStep z (z ⊗ unit_down)
-step_down_at z h =
-    let e = down_x z in
-    let l : (weight (z ⊗ unit_down)).x <ℤ (weight z).x = omega (arith, order) in
-    record {
-      smaller = l;
-      falls = fall (weight (z ⊗ unit_down)).x (weight z).x (x_not_negative (z ⊗ unit_down)) l;
-      associate = ((unit_up, back_down z), (unit_down, ⊗_comm z unit_down));
-      same_norm = norm-⊗ z unit_down ∙ times_one (norm z);
-    }
-
-step_up_at : (z : Coefficient) → (weight z).x <ℤ neg_ℤ ((weight z).y +ℤ (weight z).y) → IsStep z (z ⊗ unit_up)
-step_up_at z h =
-    let e = up_x z in
-    let l : (weight (z ⊗ unit_up)).x <ℤ (weight z).x = omega (arith, order) in
-    record {
-      smaller = l;
-      falls = fall (weight (z ⊗ unit_up)).x (weight z).x (x_not_negative (z ⊗ unit_up)) l;
-      associate = ((unit_down, back_up z), (unit_up, ⊗_comm z unit_up));
-      same_norm = norm-⊗ z unit_up ∙ times_one (norm z);
-    }
+-- a product by which the x falls, with a unit whose inverse and norm are told
+step_at : (z u back : Coefficient) → z ≡ back ⊗ (z ⊗ u) → norm u ≡ pos 1 → (weight (z ⊗ u)).x <ℤ (weight z).x → IsStep z (z ⊗ u)
+step_at z u back e n l = record {
+  smaller = l;
+  falls = fall (weight (z ⊗ u)).x (weight z).x (x_not_negative (z ⊗ u)) l;
+  associate = ((back, e), (u, ⊗_comm z u));
+  same_norm = norm-⊗ z u ∙ ap (λ (t : ℤ). norm z *ℤ t) n ∙ times_one (norm z);
+}
 
 pub step_down : (z r : Coefficient) → r ≡ z ⊗ unit_down → (weight z).x <ℤ ((weight z).y +ℤ (weight z).y) → IsStep z r
-step_down z r e h = rw e (step_down_at z h)
+step_down z r e h = let f = down_x z in rw e (step_at z unit_down unit_up (back_down z) refl (omega (arith, order)))
 
 pub step_up : (z r : Coefficient) → r ≡ z ⊗ unit_up → (weight z).x <ℤ neg_ℤ ((weight z).y +ℤ (weight z).y) → IsStep z r
-step_up z r e h = rw e (step_up_at z h)
+step_up z r e h = let f = up_x z in rw e (step_at z unit_up unit_down (back_up z) refl (omega (arith, order)))
 
 pub associate_trans : (a b c : Coefficient) → IsAssociate a b → IsAssociate b c → IsAssociate a c
 associate_trans a b c p q = (divides_trans a b c (p.0) (q.0), divides_trans c b a (q.1) (p.1))

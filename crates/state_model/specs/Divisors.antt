@@ -22,6 +22,14 @@ norm z = weight_norm (weight z)
 abbrev pub delta : Coefficient
 delta = coefficient (pos 1) (neg_ℤ (pos 1)) (pos 0) (pos 0)
 
+-- 1 + w, whose weight is that of 1 - w with the other sign before √2
+abbrev pub delta_conjugate : Coefficient
+delta_conjugate = coefficient (pos 1) (pos 1) (pos 0) (pos 0)
+
+-- (1 - w) (1 + w), whose weight is 2
+abbrev pub both_deltas : Coefficient
+both_deltas = coefficient (pos 1) (pos 0) (neg_ℤ (pos 1)) (pos 0)
+
 -- √2 + 1, a unit
 abbrev pub unit_up : Coefficient
 unit_up = coefficient (pos 1) (pos 1) (pos 0) (neg_ℤ (pos 1))

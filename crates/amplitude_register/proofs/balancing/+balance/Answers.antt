@@ -5,29 +5,17 @@ use Rattle.omega_ring.specs.Views.{omega_value, weight_value}
 use Rattle.state_model.proofs.RegisterSizes.{scaled_self, scaled_trans}
 use Rattle.amplitude_register.proofs.balancing.+balance.Goals as goal
 
-pub is_high-requires-clause-x : goal.is_high-requires-clause-x
-is_high-requires-clause-x t c = (small_of (map omega_value c.args.list.now) (weight_value c.args.weight) c.requires.weight c.requires.small).0
+pub is_high-requires : goal.is_high-requires
+is_high-requires t c = small_of (map omega_value c.args.list.now) (weight_value c.args.weight) c.requires.weight c.requires.small
 
-pub is_high-requires-clause-y : goal.is_high-requires-clause-y
-is_high-requires-clause-y t c = (small_of (map omega_value c.args.list.now) (weight_value c.args.weight) c.requires.weight c.requires.small).1
+pub lowered-requires : goal.lowered-requires
+lowered-requires t c = small_of (map omega_value c.args.list.now) (weight_value c.args.weight) c.requires.weight c.requires.small
 
-pub lower_weight-requires-clause-x : goal.lower_weight-requires-clause-x
-lower_weight-requires-clause-x t c = (small_of (map omega_value c.args.list.now) (weight_value c.args.weight) c.requires.weight c.requires.small).0
+pub is_low-requires : goal.is_low-requires
+is_low-requires t c = small_of (map omega_value c.args.list.now) (weight_value c.args.weight) c.requires.weight c.requires.small
 
-pub lower_weight-requires-clause-y : goal.lower_weight-requires-clause-y
-lower_weight-requires-clause-y t c = (small_of (map omega_value c.args.list.now) (weight_value c.args.weight) c.requires.weight c.requires.small).1
-
-pub is_low-requires-clause-x : goal.is_low-requires-clause-x
-is_low-requires-clause-x t c = (small_of (map omega_value c.args.list.now) (weight_value c.args.weight) c.requires.weight c.requires.small).0
-
-pub is_low-requires-clause-y : goal.is_low-requires-clause-y
-is_low-requires-clause-y t c = (small_of (map omega_value c.args.list.now) (weight_value c.args.weight) c.requires.weight c.requires.small).1
-
-pub raise_weight-requires-clause-x : goal.raise_weight-requires-clause-x
-raise_weight-requires-clause-x t c = (small_of (map omega_value c.args.list.now) (weight_value c.args.weight) c.requires.weight c.requires.small).0
-
-pub raise_weight-requires-clause-y : goal.raise_weight-requires-clause-y
-raise_weight-requires-clause-y t c = (small_of (map omega_value c.args.list.now) (weight_value c.args.weight) c.requires.weight c.requires.small).1
+pub raised-requires : goal.raised-requires
+raised-requires t c = small_of (map omega_value c.args.list.now) (weight_value c.args.weight) c.requires.weight c.requires.small
 
 pub lower-requires : goal.lower-requires
 lower-requires t c = sum_within (map omega_value c.args.list.now) (weight_value c.args.weight) c.requires.weight c.requires.small
@@ -37,24 +25,24 @@ raise-requires t c = sum_within (map omega_value c.args.list.now) (weight_value 
 
 pub balance-requires : goal.balance-requires
 balance-requires t c =
-    let k = down_step (map omega_value c.args.list.now) (map omega_value c.lower.new.list) (weight_value c.args.weight) (weight_value c.lower_weight.result) c.requires.weight c.requires.small (c.is_high.ensures.0 c.if-is_high.true) c.lower.ensures c.lower_weight.ensures.x c.lower_weight.ensures.y in
-    let f : unsigned_abs c.lower_weight.result.x < unsigned_abs c.args.weight.x = k.falls in
+    let k = down_step (map omega_value c.args.list.now) (map omega_value c.lower.new.list) (weight_value c.args.weight) (weight_value c.lowered.result) c.requires.weight c.requires.small (c.is_high.ensures.0 c.if-is_high.true) c.lower.ensures c.lowered.ensures in
+    let f : unsigned_abs c.lowered.result.x < unsigned_abs c.args.weight.x = k.falls in
     (omega (arith, f), (k.weight, k.small))
 
 pub balance-requires-then-is_low : goal.balance-requires-then-is_low
 balance-requires-then-is_low t c =
-    let k = up_step (map omega_value c.args.list.now) (map omega_value c.raise.new.list) (weight_value c.args.weight) (weight_value c.raise_weight.result) c.requires.weight c.requires.small (c.is_low.ensures.0 c.if-is_low.true) c.raise.ensures c.raise_weight.ensures.x c.raise_weight.ensures.y in
-    let f : unsigned_abs c.raise_weight.result.x < unsigned_abs c.args.weight.x = k.falls in
+    let k = up_step (map omega_value c.args.list.now) (map omega_value c.raise.new.list) (weight_value c.args.weight) (weight_value c.raised.result) c.requires.weight c.requires.small (c.is_low.ensures.0 c.if-is_low.true) c.raise.ensures c.raised.ensures in
+    let f : unsigned_abs c.raised.result.x < unsigned_abs c.args.weight.x = k.falls in
     (omega (arith, f), (k.weight, k.small))
 
 pub returns-then-is_high-clause-scaled : goal.returns-then-is_high-clause-scaled
 returns-then-is_high-clause-scaled t c =
-    let k = down_step (map omega_value c.args.list.now) (map omega_value c.lower.new.list) (weight_value c.args.weight) (weight_value c.lower_weight.result) c.requires.weight c.requires.small (c.is_high.ensures.0 c.if-is_high.true) c.lower.ensures c.lower_weight.ensures.x c.lower_weight.ensures.y in
+    let k = down_step (map omega_value c.args.list.now) (map omega_value c.lower.new.list) (weight_value c.args.weight) (weight_value c.lowered.result) c.requires.weight c.requires.small (c.is_high.ensures.0 c.if-is_high.true) c.lower.ensures c.lowered.ensures in
     scaled_trans (map omega_value c.balance.new.list) (map omega_value c.lower.new.list) (map omega_value c.args.list.now) c.balance.ensures.scaled k.scaled
 
 pub returns-then-is_low-clause-scaled : goal.returns-then-is_low-clause-scaled
 returns-then-is_low-clause-scaled t c =
-    let k = up_step (map omega_value c.args.list.now) (map omega_value c.raise.new.list) (weight_value c.args.weight) (weight_value c.raise_weight.result) c.requires.weight c.requires.small (c.is_low.ensures.0 c.if-is_low.true) c.raise.ensures c.raise_weight.ensures.x c.raise_weight.ensures.y in
+    let k = up_step (map omega_value c.args.list.now) (map omega_value c.raise.new.list) (weight_value c.args.weight) (weight_value c.raised.result) c.requires.weight c.requires.small (c.is_low.ensures.0 c.if-is_low.true) c.raise.ensures c.raised.ensures in
     scaled_trans (map omega_value c.balance-then-is_low.new.list) (map omega_value c.raise.new.list) (map omega_value c.args.list.now) c.balance-then-is_low.ensures.scaled k.scaled
 
 pub returns-else-is_low-clause-scaled : goal.returns-else-is_low-clause-scaled

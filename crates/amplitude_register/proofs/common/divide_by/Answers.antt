@@ -4,7 +4,7 @@ use Rattle.state_model.specs.Coefficient.{Coefficient, ◌⊗◌}
 use Rattle.state_model.specs.Divisors.{Divides}
 use Rattle.omega_ring.specs.Views.{omega_value}
 use Rattle.omega_ring.specs.Range.{CoordinatesBelow}
-use Rattle.amplitude_register.proofs.Entries.{at_map}
+use Rattle.omega_ring.proofs.Entries.{at_map}
 use Rattle.amplitude_register.proofs.common.divide_by.Goals as goal
 
 pub div_exact-requires-clause-range : goal.div_exact-requires-clause-range

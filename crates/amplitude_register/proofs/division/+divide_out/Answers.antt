@@ -1,6 +1,6 @@
 use Rattle.std.proofs.Common.{◌<◌, ◌≤ℤ◌, pos, unsigned_abs, map, arith}
 use Rattle.std.proofs.lemmas.Int.{ints}
-use Rattle.amplitude_register.proofs.Sums.{sum_within, small_of, real_of}
+use Rattle.amplitude_register.proofs.Sums.{sum_within, small_of}
 use Rattle.amplitude_register.proofs.Steps.{both_weights_even, both_step, lower_even, upper_even, lower_step, upper_step}
 use Rattle.state_model.specs.Divisors.{weight_norm}
 use Rattle.omega_ring.specs.Views.{omega_value, weight_value}
@@ -14,33 +14,30 @@ all_divisible_by_both-requires t c = sum_within (map omega_value c.args.list.now
 pub divide_by_both-requires-clause-range : goal.divide_by_both-requires-clause-range
 divide_by_both-requires-clause-range t c = sum_within (map omega_value c.args.list.now) (weight_value c.args.weight) c.requires.weight c.requires.small
 
-pub halved-requires-clause-wide : goal.halved-requires-clause-wide
-halved-requires-clause-wide t c = (small_of (map omega_value c.args.list.now) (weight_value c.args.weight) c.requires.weight c.requires.small).0
+pub over_both-requires-clause-small : goal.over_both-requires-clause-small
+over_both-requires-clause-small t c = small_of (map omega_value c.args.list.now) (weight_value c.args.weight) c.requires.weight c.requires.small
 
-pub halved-requires-clause-high : goal.halved-requires-clause-high
-halved-requires-clause-high t c = (small_of (map omega_value c.args.list.now) (weight_value c.args.weight) c.requires.weight c.requires.small).1
+pub over_both-requires-clause-x : goal.over_both-requires-clause-x
+over_both-requires-clause-x t c = (both_weights_even (map omega_value c.args.list.now) (map omega_value c.divide_by_both.new.list) (weight_value c.args.weight) c.requires.weight c.divide_by_both.ensures).0
 
-pub halved-requires-clause-x : goal.halved-requires-clause-x
-halved-requires-clause-x t c = (both_weights_even (map omega_value c.args.list.now) (map omega_value c.divide_by_both.new.list) (weight_value c.args.weight) c.requires.weight c.divide_by_both.ensures).0
-
-pub halved-requires-clause-y : goal.halved-requires-clause-y
-halved-requires-clause-y t c = (both_weights_even (map omega_value c.args.list.now) (map omega_value c.divide_by_both.new.list) (weight_value c.args.weight) c.requires.weight c.divide_by_both.ensures).1
+pub over_both-requires-clause-y : goal.over_both-requires-clause-y
+over_both-requires-clause-y t c = (both_weights_even (map omega_value c.args.list.now) (map omega_value c.divide_by_both.new.list) (weight_value c.args.weight) c.requires.weight c.divide_by_both.ensures).1
 
 pub divide_out-requires : goal.divide_out-requires
 divide_out-requires t c =
-    let k = both_step (map omega_value c.args.list.now) (map omega_value c.divide_by_both.new.list) (weight_value c.args.weight) (weight_value c.halved.result) c.requires.weight c.requires.nonzero c.divide_by_both.ensures c.halved.ensures in
-    let f : unsigned_abs (weight_norm (weight_value c.halved.result)) < unsigned_abs (weight_norm (weight_value c.args.weight)) = k.falls in
+    let k = both_step (map omega_value c.args.list.now) (map omega_value c.divide_by_both.new.list) (weight_value c.args.weight) (weight_value c.over_both.result) c.requires.weight c.requires.nonzero c.divide_by_both.ensures c.over_both.ensures in
+    let f : unsigned_abs (weight_norm (weight_value c.over_both.result)) < unsigned_abs (weight_norm (weight_value c.args.weight)) = k.falls in
     let m = k.smaller in
     (omega (arith, f), (k.weight, (omega (arith, order, m, c.requires.small), k.nonzero)))
 
 pub returns-then-all_divisible_by_both-clause-small : goal.returns-then-all_divisible_by_both-clause-small
 returns-then-all_divisible_by_both-clause-small t c =
-    let k = both_step (map omega_value c.args.list.now) (map omega_value c.divide_by_both.new.list) (weight_value c.args.weight) (weight_value c.halved.result) c.requires.weight c.requires.nonzero c.divide_by_both.ensures c.halved.ensures in
+    let k = both_step (map omega_value c.args.list.now) (map omega_value c.divide_by_both.new.list) (weight_value c.args.weight) (weight_value c.over_both.result) c.requires.weight c.requires.nonzero c.divide_by_both.ensures c.over_both.ensures in
     let m = k.smaller in omega (arith, order, m, c.divide_out.ensures.small)
 
 pub returns-then-all_divisible_by_both-clause-scaled : goal.returns-then-all_divisible_by_both-clause-scaled
 returns-then-all_divisible_by_both-clause-scaled t c =
-    let k = both_step (map omega_value c.args.list.now) (map omega_value c.divide_by_both.new.list) (weight_value c.args.weight) (weight_value c.halved.result) c.requires.weight c.requires.nonzero c.divide_by_both.ensures c.halved.ensures in
+    let k = both_step (map omega_value c.args.list.now) (map omega_value c.divide_by_both.new.list) (weight_value c.args.weight) (weight_value c.over_both.result) c.requires.weight c.requires.nonzero c.divide_by_both.ensures c.over_both.ensures in
     scaled_trans (map omega_value c.divide_out.new.list) (map omega_value c.divide_by_both.new.list) (map omega_value c.args.list.now) c.divide_out.ensures.scaled k.scaled
 
 pub all_divisible-requires : goal.all_divisible-requires
@@ -52,31 +49,31 @@ divide_by_conjugate-requires-clause-range t c = sum_within (map omega_value c.ar
 pub divide_by_delta-requires-clause-range : goal.divide_by_delta-requires-clause-range
 divide_by_delta-requires-clause-range t c = sum_within (map omega_value c.args.list.now) (weight_value c.args.weight) c.requires.weight c.requires.small
 
-pub lower_half-requires-clause-order : goal.lower_half-requires-clause-order
-lower_half-requires-clause-order t c = let r = real_of (map omega_value c.args.list.now) (weight_value c.args.weight) c.requires.weight in r.above
+pub over_conjugate-requires-clause-small : goal.over_conjugate-requires-clause-small
+over_conjugate-requires-clause-small t c = small_of (map omega_value c.args.list.now) (weight_value c.args.weight) c.requires.weight c.requires.small
 
-pub lower_half-requires-clause-even : goal.lower_half-requires-clause-even
-lower_half-requires-clause-even t c = lower_even (map omega_value c.args.list.now) (map omega_value c.divide_by_conjugate.new.list) (weight_value c.args.weight) c.requires.weight c.divide_by_conjugate.ensures
+pub over_conjugate-requires-clause-even : goal.over_conjugate-requires-clause-even
+over_conjugate-requires-clause-even t c = lower_even (map omega_value c.args.list.now) (map omega_value c.divide_by_conjugate.new.list) (weight_value c.args.weight) c.requires.weight c.divide_by_conjugate.ensures
 
-pub upper_half-requires-clause-order : goal.upper_half-requires-clause-order
-upper_half-requires-clause-order t c = let r = real_of (map omega_value c.args.list.now) (weight_value c.args.weight) c.requires.weight in let b = r.below in omega (arith, order, b)
+pub over_delta-requires-clause-small : goal.over_delta-requires-clause-small
+over_delta-requires-clause-small t c = small_of (map omega_value c.args.list.now) (weight_value c.args.weight) c.requires.weight c.requires.small
 
-pub upper_half-requires-clause-even : goal.upper_half-requires-clause-even
-upper_half-requires-clause-even t c = upper_even (map omega_value c.args.list.now) (map omega_value c.divide_by_delta.new.list) (weight_value c.args.weight) c.requires.weight c.divide_by_delta.ensures
+pub over_delta-requires-clause-even : goal.over_delta-requires-clause-even
+over_delta-requires-clause-even t c = upper_even (map omega_value c.args.list.now) (map omega_value c.divide_by_delta.new.list) (weight_value c.args.weight) c.requires.weight c.divide_by_delta.ensures
 
 pub divide_out-requires-then-weight-gt0 : goal.divide_out-requires-then-weight-gt0
 divide_out-requires-then-weight-gt0 t c =
     let s : pos 0 ≤ℤ c.args.weight.y = omega (arith, ints, c.if-weight-gt0.true) in
-    let k = lower_step (map omega_value c.args.list.now) (map omega_value c.divide_by_conjugate.new.list) (weight_value c.args.weight) (weight_value c.lower_half.result) c.requires.weight s c.requires.nonzero c.divide_by_conjugate.ensures c.lower_half.ensures in
-    let f : unsigned_abs (weight_norm (weight_value c.lower_half.result)) < unsigned_abs (weight_norm (weight_value c.args.weight)) = k.falls in
+    let k = lower_step (map omega_value c.args.list.now) (map omega_value c.divide_by_conjugate.new.list) (weight_value c.args.weight) (weight_value c.over_conjugate.result) c.requires.weight s c.requires.nonzero c.divide_by_conjugate.ensures c.over_conjugate.ensures in
+    let f : unsigned_abs (weight_norm (weight_value c.over_conjugate.result)) < unsigned_abs (weight_norm (weight_value c.args.weight)) = k.falls in
     let m = k.smaller in
     (omega (arith, f), (k.weight, (omega (arith, order, m, c.requires.small), k.nonzero)))
 
 pub divide_out-requires-else-weight-gt0 : goal.divide_out-requires-else-weight-gt0
 divide_out-requires-else-weight-gt0 t c =
     let s : c.args.weight.y ≤ℤ pos 0 = omega (arith, ints, c.if-weight-gt0.false) in
-    let k = upper_step (map omega_value c.args.list.now) (map omega_value c.divide_by_delta.new.list) (weight_value c.args.weight) (weight_value c.upper_half.result) c.requires.weight s c.requires.nonzero c.divide_by_delta.ensures c.upper_half.ensures in
-    let f : unsigned_abs (weight_norm (weight_value c.upper_half.result)) < unsigned_abs (weight_norm (weight_value c.args.weight)) = k.falls in
+    let k = upper_step (map omega_value c.args.list.now) (map omega_value c.divide_by_delta.new.list) (weight_value c.args.weight) (weight_value c.over_delta.result) c.requires.weight s c.requires.nonzero c.divide_by_delta.ensures c.over_delta.ensures in
+    let f : unsigned_abs (weight_norm (weight_value c.over_delta.result)) < unsigned_abs (weight_norm (weight_value c.args.weight)) = k.falls in
     let m = k.smaller in
     (omega (arith, f), (k.weight, (omega (arith, order, m, c.requires.small), k.nonzero)))
 
@@ -86,23 +83,23 @@ returns-then-not-all_divisible-clause-scaled t c = scaled_self (map omega_value 
 pub returns-then-weight-gt0-clause-small : goal.returns-then-weight-gt0-clause-small
 returns-then-weight-gt0-clause-small t c =
     let s : pos 0 ≤ℤ c.args.weight.y = omega (arith, ints, c.if-weight-gt0.true) in
-    let k = lower_step (map omega_value c.args.list.now) (map omega_value c.divide_by_conjugate.new.list) (weight_value c.args.weight) (weight_value c.lower_half.result) c.requires.weight s c.requires.nonzero c.divide_by_conjugate.ensures c.lower_half.ensures in
+    let k = lower_step (map omega_value c.args.list.now) (map omega_value c.divide_by_conjugate.new.list) (weight_value c.args.weight) (weight_value c.over_conjugate.result) c.requires.weight s c.requires.nonzero c.divide_by_conjugate.ensures c.over_conjugate.ensures in
     let m = k.smaller in omega (arith, order, m, c.divide_out-then-weight-gt0.ensures.small)
 
 pub returns-then-weight-gt0-clause-scaled : goal.returns-then-weight-gt0-clause-scaled
 returns-then-weight-gt0-clause-scaled t c =
     let s : pos 0 ≤ℤ c.args.weight.y = omega (arith, ints, c.if-weight-gt0.true) in
-    let k = lower_step (map omega_value c.args.list.now) (map omega_value c.divide_by_conjugate.new.list) (weight_value c.args.weight) (weight_value c.lower_half.result) c.requires.weight s c.requires.nonzero c.divide_by_conjugate.ensures c.lower_half.ensures in
+    let k = lower_step (map omega_value c.args.list.now) (map omega_value c.divide_by_conjugate.new.list) (weight_value c.args.weight) (weight_value c.over_conjugate.result) c.requires.weight s c.requires.nonzero c.divide_by_conjugate.ensures c.over_conjugate.ensures in
     scaled_trans (map omega_value c.divide_out-then-weight-gt0.new.list) (map omega_value c.divide_by_conjugate.new.list) (map omega_value c.args.list.now) c.divide_out-then-weight-gt0.ensures.scaled k.scaled
 
 pub returns-else-weight-gt0-clause-small : goal.returns-else-weight-gt0-clause-small
 returns-else-weight-gt0-clause-small t c =
     let s : c.args.weight.y ≤ℤ pos 0 = omega (arith, ints, c.if-weight-gt0.false) in
-    let k = upper_step (map omega_value c.args.list.now) (map omega_value c.divide_by_delta.new.list) (weight_value c.args.weight) (weight_value c.upper_half.result) c.requires.weight s c.requires.nonzero c.divide_by_delta.ensures c.upper_half.ensures in
+    let k = upper_step (map omega_value c.args.list.now) (map omega_value c.divide_by_delta.new.list) (weight_value c.args.weight) (weight_value c.over_delta.result) c.requires.weight s c.requires.nonzero c.divide_by_delta.ensures c.over_delta.ensures in
     let m = k.smaller in omega (arith, order, m, c.divide_out-else-weight-gt0.ensures.small)
 
 pub returns-else-weight-gt0-clause-scaled : goal.returns-else-weight-gt0-clause-scaled
 returns-else-weight-gt0-clause-scaled t c =
     let s : c.args.weight.y ≤ℤ pos 0 = omega (arith, ints, c.if-weight-gt0.false) in
-    let k = upper_step (map omega_value c.args.list.now) (map omega_value c.divide_by_delta.new.list) (weight_value c.args.weight) (weight_value c.upper_half.result) c.requires.weight s c.requires.nonzero c.divide_by_delta.ensures c.upper_half.ensures in
+    let k = upper_step (map omega_value c.args.list.now) (map omega_value c.divide_by_delta.new.list) (weight_value c.args.weight) (weight_value c.over_delta.result) c.requires.weight s c.requires.nonzero c.divide_by_delta.ensures c.over_delta.ensures in
     scaled_trans (map omega_value c.divide_out-else-weight-gt0.new.list) (map omega_value c.divide_by_delta.new.list) (map omega_value c.args.list.now) c.divide_out-else-weight-gt0.ensures.scaled k.scaled

@@ -1,7 +1,7 @@
 use Rattle.std.proofs.Common.{ℕ, ◌<◌, get_or}
 use Rattle.state_model.specs.Divisors.{Divides, delta}
 use Rattle.omega_ring.specs.Views.{omega_value}
-use Rattle.amplitude_register.proofs.Entries.{zero_omega}
+use Rattle.omega_ring.proofs.Entries.{zero_omega}
 use Rattle.amplitude_register.proofs.division.all_divisible.Given as goal
 
 abbrev pub invariant-loop-z : goal.invariant-loop-z

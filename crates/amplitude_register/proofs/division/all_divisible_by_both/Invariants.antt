@@ -1,8 +1,8 @@
 use Rattle.std.proofs.Common.{ℕ, ◌<◌, get_or}
 use Rattle.state_model.specs.Divisors.{Divides}
 use Rattle.omega_ring.specs.Views.{omega_value}
-use Rattle.amplitude_register.specs.Multiples.{both_deltas}
-use Rattle.amplitude_register.proofs.Entries.{zero_omega}
+use Rattle.state_model.specs.Divisors.{both_deltas}
+use Rattle.omega_ring.proofs.Entries.{zero_omega}
 use Rattle.amplitude_register.proofs.division.all_divisible_by_both.Given as goal
 
 abbrev pub invariant-loop-z : goal.invariant-loop-z

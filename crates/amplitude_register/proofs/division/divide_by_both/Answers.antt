@@ -2,10 +2,10 @@ use Rattle.std.proofs.Common.{◌≡◌, ◌^◌, ◌∙◌, sym, ap, subst, ari
 use Rattle.amplitude_register.proofs.Loops.{partly_none, partly_more, over_whole}
 use Rattle.state_model.specs.Coefficient.{Coefficient, ◌⊗◌}
 use Rattle.state_model.specs.Divisors.{Divides}
-use Rattle.amplitude_register.specs.Multiples.{both_deltas}
+use Rattle.state_model.specs.Divisors.{both_deltas}
 use Rattle.omega_ring.specs.Views.{omega_value}
 use Rattle.omega_ring.specs.Range.{CoordinatesBelow}
-use Rattle.amplitude_register.proofs.Entries.{at_map}
+use Rattle.omega_ring.proofs.Entries.{at_map}
 use Rattle.amplitude_register.proofs.division.divide_by_both.Goals as goal
 
 pub over_both-requires-clause-range : goal.over_both-requires-clause-range

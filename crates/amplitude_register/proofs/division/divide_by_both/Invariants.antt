@@ -1,7 +1,7 @@
 use Rattle.std.proofs.Common.{◌≡◌}
 use Rattle.amplitude_register.proofs.Loops.{IsPartly}
 use Rattle.state_model.specs.Coefficient.{Coefficient, ◌⊗◌}
-use Rattle.amplitude_register.specs.Multiples.{both_deltas}
+use Rattle.state_model.specs.Divisors.{both_deltas}
 use Rattle.amplitude_register.proofs.division.divide_by_both.Given as goal
 
 abbrev pub invariant-loop-z : goal.invariant-loop-z

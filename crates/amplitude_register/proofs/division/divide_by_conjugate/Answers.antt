@@ -4,8 +4,8 @@ use Rattle.state_model.specs.Coefficient.{Coefficient, ◌⊗◌}
 use Rattle.state_model.specs.Divisors.{Divides, delta}
 use Rattle.omega_ring.specs.Views.{omega_value}
 use Rattle.omega_ring.specs.Range.{CoordinatesBelow}
-use Rattle.amplitude_register.specs.Multiples.{delta_conjugate}
-use Rattle.amplitude_register.proofs.Entries.{at_map}
+use Rattle.state_model.specs.Divisors.{delta_conjugate}
+use Rattle.omega_ring.proofs.Entries.{at_map}
 use Rattle.amplitude_register.proofs.division.divide_by_conjugate.Goals as goal
 
 pub over_conjugate-requires-clause-range : goal.over_conjugate-requires-clause-range

@@ -1,7 +1,7 @@
 use Rattle.std.proofs.Common.{◌≡◌}
 use Rattle.amplitude_register.proofs.Loops.{IsPartly}
 use Rattle.state_model.specs.Coefficient.{Coefficient, ◌⊗◌}
-use Rattle.amplitude_register.specs.Multiples.{delta_conjugate}
+use Rattle.state_model.specs.Divisors.{delta_conjugate}
 use Rattle.amplitude_register.proofs.division.divide_by_conjugate.Given as goal
 
 abbrev pub invariant-loop-z : goal.invariant-loop-z

@@ -4,7 +4,7 @@ use Rattle.state_model.specs.Coefficient.{Coefficient, ◌⊗◌}
 use Rattle.state_model.specs.Divisors.{Divides, delta}
 use Rattle.omega_ring.specs.Views.{omega_value}
 use Rattle.omega_ring.specs.Range.{CoordinatesBelow}
-use Rattle.amplitude_register.proofs.Entries.{at_map}
+use Rattle.omega_ring.proofs.Entries.{at_map}
 use Rattle.amplitude_register.proofs.division.divide_by_delta.Goals as goal
 
 pub over_delta-requires-clause-range : goal.over_delta-requires-clause-range

@@ -3,7 +3,7 @@ use Rattle.amplitude_register.proofs.Sums.{within_sum, stored_until, stored_more
 use Rattle.state_model.specs.Coefficient.{Coefficient, weight}
 use Rattle.omega_ring.specs.Views.{omega_value, weight_value}
 use Rattle.omega_ring.specs.Range.{CoordinatesBelow}
-use Rattle.amplitude_register.proofs.Entries.{at_map}
+use Rattle.omega_ring.proofs.Entries.{at_map}
 use Rattle.amplitude_register.proofs.normal.list_weight.Goals as goal
 
 pub weight-weight-requires : goal.weight-weight-requires

@@ -2,7 +2,7 @@ use Rattle.std.proofs.Common.{◌^◌, refl, sym, subst, ◌∙◌}
 use Rattle.state_model.specs.Coefficient.{Coefficient}
 use Rattle.omega_ring.specs.Range.{CoordinatesBelow}
 use Rattle.omega_ring.specs.Views.{omega_value}
-use Rattle.amplitude_register.proofs.Entries.{at_map}
+use Rattle.omega_ring.proofs.Entries.{at_map}
 use Rattle.amplitude_register.proofs.RowPairs.{wider}
 use Rattle.amplitude_register.proofs.Written.{turned_set, turned_clear}
 use Rattle.amplitude_register.proofs.passes.turned.Goals as goal

@@ -21,18 +21,18 @@ plus-requires-clause-left c = low_range (matrix H) c.args.place (2 ^ 61) c.args.
 pub plus-requires-clause-right : goal.plus-requires-clause-right
 plus-requires-clause-right c = high_range (matrix H) c.args.place (2 ^ 61) c.args.list.now c.loop-row.list c.loop-row.row c.with_high_bit-high.result c.requires.range c.loop-row.invariant (sym c.has_bit.ensures ∙ c.if-not-has_bit.true) c.with_high_bit-high.ensures.value
 
-pub less-requires-clause-left : goal.less-requires-clause-left
-less-requires-clause-left c = low_range (matrix H) c.args.place (2 ^ 61) c.args.list.now c.loop-row.list c.loop-row.row c.requires.range c.loop-row.invariant (sym c.has_bit.ensures ∙ c.if-not-has_bit.true)
+pub minus-requires-clause-left : goal.minus-requires-clause-left
+minus-requires-clause-left c = low_range (matrix H) c.args.place (2 ^ 61) c.args.list.now c.loop-row.list c.loop-row.row c.requires.range c.loop-row.invariant (sym c.has_bit.ensures ∙ c.if-not-has_bit.true)
 
-pub less-requires-clause-right : goal.less-requires-clause-right
-less-requires-clause-right c = high_range (matrix H) c.args.place (2 ^ 61) c.args.list.now c.loop-row.list c.loop-row.row c.with_high_bit-high.result c.requires.range c.loop-row.invariant (sym c.has_bit.ensures ∙ c.if-not-has_bit.true) c.with_high_bit-high.ensures.value
+pub minus-requires-clause-right : goal.minus-requires-clause-right
+minus-requires-clause-right c = high_range (matrix H) c.args.place (2 ^ 61) c.args.list.now c.loop-row.list c.loop-row.row c.with_high_bit-high.result c.requires.range c.loop-row.invariant (sym c.has_bit.ensures ∙ c.if-not-has_bit.true) c.with_high_bit-high.ensures.value
 
 pub loop-row-preserved : goal.loop-row-preserved
 loop-row-preserved c = elim c.if-not-has_bit.branch [
   | then-not-has_bit w ↦
       let e = sym c.has_bit.ensures ∙ w.if-not-has_bit.true in
       subst (λ (ys : List Omega). IsGateUntil (matrix H) c.args.place c.args.list.now ys (c.loop-row.row + 1)) (sym w.list-is)
-      (gate_both (matrix H) c.args.place c.args.list.now c.loop-row.list c.loop-row.row w.with_high_bit-high.result w.plus.result w.less.result c.requires.place (omega arith) e w.with_high_bit-high.ensures.value c.loop-row.invariant (w.plus.ensures ∙ pair_of (λ (y z : Coefficient). y ⊕ z) (gate_low (matrix H) c.args.place c.args.list.now c.loop-row.list c.loop-row.row _ e c.loop-row.invariant refl) (gate_top (matrix H) c.args.place c.args.list.now c.loop-row.list c.loop-row.row w.with_high_bit-high.result _ e w.with_high_bit-high.ensures.value c.loop-row.invariant refl) ∙ sum_entry (value_at c.args.list.now c.loop-row.row) (value_at c.args.list.now (with_bit c.args.place true c.loop-row.row))) (w.less.ensures ∙ pair_of (λ (y z : Coefficient). y ⊖ z) (gate_low (matrix H) c.args.place c.args.list.now c.loop-row.list c.loop-row.row _ e c.loop-row.invariant refl) (gate_top (matrix H) c.args.place c.args.list.now c.loop-row.list c.loop-row.row w.with_high_bit-high.result _ e w.with_high_bit-high.ensures.value c.loop-row.invariant refl) ∙ difference_entry (value_at c.args.list.now c.loop-row.row) (value_at c.args.list.now (with_bit c.args.place true c.loop-row.row))))
+      (gate_both (matrix H) c.args.place c.args.list.now c.loop-row.list c.loop-row.row w.with_high_bit-high.result w.plus.result w.minus.result c.requires.place (omega arith) e w.with_high_bit-high.ensures.value c.loop-row.invariant (w.plus.ensures ∙ pair_of (λ (y z : Coefficient). y ⊕ z) (gate_low (matrix H) c.args.place c.args.list.now c.loop-row.list c.loop-row.row _ e c.loop-row.invariant refl) (gate_top (matrix H) c.args.place c.args.list.now c.loop-row.list c.loop-row.row w.with_high_bit-high.result _ e w.with_high_bit-high.ensures.value c.loop-row.invariant refl) ∙ sum_entry (value_at c.args.list.now c.loop-row.row) (value_at c.args.list.now (with_bit c.args.place true c.loop-row.row))) (w.minus.ensures ∙ pair_of (λ (y z : Coefficient). y ⊖ z) (gate_low (matrix H) c.args.place c.args.list.now c.loop-row.list c.loop-row.row _ e c.loop-row.invariant refl) (gate_top (matrix H) c.args.place c.args.list.now c.loop-row.list c.loop-row.row w.with_high_bit-high.result _ e w.with_high_bit-high.ensures.value c.loop-row.invariant refl) ∙ difference_entry (value_at c.args.list.now c.loop-row.row) (value_at c.args.list.now (with_bit c.args.place true c.loop-row.row))))
   | else-not-has_bit w ↦ subst (λ (ys : List Omega). IsGateUntil (matrix H) c.args.place c.args.list.now ys (c.loop-row.row + 1)) (sym w.list-is)
       (gate_skip (matrix H) c.args.place c.args.list.now c.loop-row.list c.loop-row.row (sym c.has_bit.ensures ∙ w.if-not-has_bit.false) c.loop-row.invariant)
 ]

@@ -2,7 +2,7 @@ use Rattle.std.proofs.Common.{◌≡◌, ◌+◌, ◌-◌, ◌*◌, ◌/◌, ◌
 use Rattle.state_model.specs.declared.Two.TheVariants.{Cnot}
 use Rattle.state_model.specs.Amplitudes.{IsTwoGateRow}
 use Rattle.omega_ring.specs.Views.{omega_value}
-use Rattle.amplitude_register.proofs.Entries.{zero_omega}
+use Rattle.omega_ring.proofs.Entries.{zero_omega}
 use Rattle.amplitude_register.proofs.Runs.{runs_whole, run_inside, run_next, run_first, run_source, run_source_inside, run_written}
 use Rattle.amplitude_register.proofs.TwoGates.{source_entry, exchanged_past}
 use Rattle.amplitude_register.proofs.Written.{IsWrittenFrom, written_none, written_whole}

@@ -39,4 +39,4 @@ pub returns-clause-small : goal.returns-clause-small
 returns-clause-small c = subst (CoordinatesBelow (2 ^ 31)) (sym c.short.ensures) (let s = ready_small (wide_value c.loop-z.common) c.loop-z.invariant.ready in s.coordinates)
 
 pub short-requires : goal.short-requires
-short-requires c = let s = ready_small (wide_value c.loop-z.common) c.loop-z.invariant.ready in within_up (2 ^ 31) (2 ^ 36) (wide_value c.loop-z.common) s.coordinates (omega arith)
+short-requires c = let s = ready_small (wide_value c.loop-z.common) c.loop-z.invariant.ready in within_up (2 ^ 31) (2 ^ 63) (wide_value c.loop-z.common) s.coordinates (omega arith)

@@ -1,4 +1,4 @@
-use Rattle.std.proofs.Common.{◌≡◌, ◌-◌, ◌∙◌, ℕ, List, length, take, slice_index_or, sym, subst}
+use Rattle.std.proofs.Common.{◌-◌, ◌∙◌, ℕ, List, length, take, slice_index_or, sym, subst}
 use Rattle.state_model.specs.Amplitudes.{AreDistinct}
 use Rattle.state_model.proofs.KeptLists.{without_distinct}
 use Rattle.register_split.proofs.removal.begin_others.Goals as goal

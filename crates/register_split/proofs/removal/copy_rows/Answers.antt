@@ -1,4 +1,4 @@
-use Rattle.std.proofs.Common.{◌≡◌, ◌≤◌, ◌^◌, ◌∙◌, length, ap, arith}
+use Rattle.std.proofs.Common.{◌∙◌, length, ap, arith}
 use Rattle.state_model.specs.CoefficientList.{at}
 use Rattle.omega_ring.specs.Views.{omega_value}
 use Rattle.amplitude_register.proofs.Fields.{power_le}

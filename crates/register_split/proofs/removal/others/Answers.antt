@@ -1,4 +1,4 @@
-use Rattle.std.proofs.Common.{◌≡◌, ◌∙◌, ℕ, length, get_or, slice_set, ap, arith}
+use Rattle.std.proofs.Common.{◌∙◌, get_or, ap, arith}
 use Rattle.std.proofs.lemmas.List.{length-set}
 use Rattle.register_split.proofs.Others.{more_copied, all_copied, skip_is}
 use Rattle.register_split.proofs.removal.others.Goals as goal

@@ -1,6 +1,5 @@
-use Rattle.std.proofs.Common.{◌≡◌, ◌^◌, pos}
 use Rattle.state_model.specs.CoefficientList.{total_weight}
-use Rattle.amplitude_register.specs.States.{RegisterState, next_value}
+use Rattle.amplitude_register.specs.States.{next_value}
 use Rattle.register_split.specs.Removal.{IsDrafted}
 use Rattle.register_split.proofs.Drafts.{drafted_from, drafted_nonzero, drafted_small, smaller, sealed_taken, refused_not}
 use Rattle.register_split.proofs.removal.prepare_take_out.Goals as goal

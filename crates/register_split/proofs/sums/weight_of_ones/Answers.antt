@@ -8,11 +8,8 @@ use Rattle.register_split.proofs.sums.weight_of_ones.Goals as goal
 pub loop-row-init : goal.loop-row-init
 loop-row-init c = sym (sum_none (counted c.args.place c.args.reg.now.value.list))
 
-pub added-one-requires-clause-x : goal.added-one-requires-clause-x
-added-one-requires-clause-x c = let s = c.facts.ensures.kept.small in let e = c.row_count-row-end.ensures.rows in (one_small c.args.place c.args.reg.now.value.list c.loop-row.row (weight_value c.loop-row.one) (omega (arith, e)) s c.loop-row.invariant).0
-
-pub added-one-requires-clause-y : goal.added-one-requires-clause-y
-added-one-requires-clause-y c = let s = c.facts.ensures.kept.small in let e = c.row_count-row-end.ensures.rows in (one_small c.args.place c.args.reg.now.value.list c.loop-row.row (weight_value c.loop-row.one) (omega (arith, e)) s c.loop-row.invariant).1
+pub added-one-requires-clause-sum : goal.added-one-requires-clause-sum
+added-one-requires-clause-sum c = let s = c.facts.ensures.kept.small in let e = c.row_count-row-end.ensures.rows in one_small c.args.place c.args.reg.now.value.list c.loop-row.row (weight_value c.loop-row.one) (omega (arith, e)) s c.loop-row.invariant
 
 pub added-one-requires-clause-small : goal.added-one-requires-clause-small
 added-one-requires-clause-small c = let s = c.facts.ensures.kept.small in entry_small c.args.reg.now.value.list c.loop-row.row (omega_value c.coefficient.result) s c.coefficient.ensures
@@ -31,8 +28,5 @@ returns-clause-weight c =
     let f : c.loop-row.row ≡ length c.args.reg.now.value.list = omega (arith, e) in
     c.loop-row.invariant ∙ ap (sum_of (counted c.args.place c.args.reg.now.value.list)) f ∙ sym (one_weights c.args.reg.now.value c.args.place c.facts.ensures.rows c.requires)
 
-pub returns-clause-x : goal.returns-clause-x
-returns-clause-x c = let s = c.facts.ensures.kept.small in let e = c.row_count-row-end.ensures.rows in (one_small c.args.place c.args.reg.now.value.list c.loop-row.row (weight_value c.loop-row.one) (omega (arith, e)) s c.loop-row.invariant).0
-
-pub returns-clause-y : goal.returns-clause-y
-returns-clause-y c = let s = c.facts.ensures.kept.small in let e = c.row_count-row-end.ensures.rows in (one_small c.args.place c.args.reg.now.value.list c.loop-row.row (weight_value c.loop-row.one) (omega (arith, e)) s c.loop-row.invariant).1
+pub returns-clause-small : goal.returns-clause-small
+returns-clause-small c = let s = c.facts.ensures.kept.small in let e = c.row_count-row-end.ensures.rows in one_small c.args.place c.args.reg.now.value.list c.loop-row.row (weight_value c.loop-row.one) (omega (arith, e)) s c.loop-row.invariant

@@ -8,7 +8,7 @@ pub returns-clause-whole : goal.returns-clause-whole
 returns-clause-whole c = c.weight.ensures ∙ sym (whole_weights c.args.reg.now.value c.facts.ensures.rows)
 
 pub returns-clause-whole_x : goal.returns-clause-whole_x
-returns-clause-whole_x c = let s = c.facts.ensures.kept.small in (whole_small c.args.reg.now.value.list (weight_value c.weight.result) s c.weight.ensures).0
+returns-clause-whole_x c = let s = c.facts.ensures.kept.small in let w = whole_small c.args.reg.now.value.list (weight_value c.weight.result) s c.weight.ensures in w.x
 
 pub returns-clause-whole_y : goal.returns-clause-whole_y
-returns-clause-whole_y c = let s = c.facts.ensures.kept.small in (whole_small c.args.reg.now.value.list (weight_value c.weight.result) s c.weight.ensures).1
+returns-clause-whole_y c = let s = c.facts.ensures.kept.small in let w = whole_small c.args.reg.now.value.list (weight_value c.weight.result) s c.weight.ensures in w.y

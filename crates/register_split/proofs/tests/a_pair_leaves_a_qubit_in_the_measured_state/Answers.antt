@@ -1,5 +1,4 @@
 use Rattle.std.proofs.Common.{sym, ap, subst, true}
-use Rattle.state_model.specs.Amplitudes.{Amplitudes}
 use Rattle.amplitude_register.specs.States.{RegisterState}
 use Rattle.register_split.specs.Removal.{HasRowWith}
 use Rattle.register_split.proofs.Worked.{pair_has_one}

@@ -16,7 +16,7 @@ pub returns : goal.returns
 returns c = begin_is c.args.self.now c.self.inside.limit (amplitudes_of c.self.inside.value) (next_of c.self.inside.stage (amplitudes_of c.self.inside.next)) _ c.args.qubits.now c.clear_front.new.entries.items c.rows_of-rows.result c.self.view_is c.write_numbers.ensures.written c.rows_of-rows.ensures c.clear_front.ensures.zeros
 
 pub rows_of-rows-requires : goal.rows_of-rows-requires
-rows_of-rows-requires c = let i = c.self.invariant in let m = i.most in let e = ap (λ (t : RegisterState). t.limit) c.self.view_is in omega (arith, e, m, c.requires.few)
+rows_of-rows-requires c = let l = c.facts.ensures.limit in omega (arith, l, c.requires.few)
 
 pub invariant_of-self : goal.invariant_of-self
 invariant_of-self c =

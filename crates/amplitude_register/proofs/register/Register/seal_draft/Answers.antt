@@ -1,6 +1,6 @@
 use mir.Syntax.{w128}
 use Rattle.std.proofs.lemmas.Int.{to_z-of_z, ints}
-use Rattle.amplitude_register.proofs.Stored.{long}
+use Rattle.omega_ring.proofs.Stored.{long}
 use Rattle.std.proofs.Common.{rules, FitsSigned, ◌≤ℤ◌, ◌≡◌, ◌^◌, pos, map, take, refl, sym, ap, subst, ◌∙◌, arith}
 use Rattle.amplitude_register.proofs.Fields.{block_room, block_rows, open_value, list_of}
 use Rattle.amplitude_register.specs.Held.{amplitudes_of}
@@ -10,6 +10,7 @@ use Rattle.state_model.specs.Amplitudes.{Amplitudes}
 use Rattle.omega_ring.specs.Views.{omega_value, weight_value}
 use Rattle.state_model.specs.Coefficient.{Weight}
 use Rattle.state_model.proofs.RegisterSizes.{normal_least}
+use Rattle.amplitude_register.proofs.Placed.{next_placed, same_block}
 use Rattle.amplitude_register.proofs.register.Register.seal_draft.Goals as goal
 
 pub normalize_front-self-inside-requires-clause-rows : goal.normalize_front-self-inside-requires-clause-rows
@@ -19,29 +20,19 @@ pub normalize_front-self-inside-requires-clause-divisors : goal.normalize_front-
 normalize_front-self-inside-requires-clause-divisors c = subst (λ (a : Amplitudes). HasDeltaDivisors a.list) (open_value c.args.self.now c.self.inside.limit (amplitudes_of c.self.inside.value) c.self.inside.stage (amplitudes_of c.self.inside.next) c.self.view_is c.requires.open) c.requires.divisors
 
 pub invariant_of-self : goal.invariant_of-self
-invariant_of-self c =
-    let i = c.self.invariant in let n = i.next in let h = c.normalize_front-self-inside.ensures in
-    record {
-      some = i.some;
-      most = i.most;
-      value = i.value;
-      next = record { rows = n.rows; count = n.count; room = h.room ∙ n.room; numbers = n.numbers; distinct = n.distinct };
-      weighed = i.weighed;
-      kept = i.kept;
-      stage = (h.weight, sealed_kept record { qubits = take c.self.inside.next.count c.self.inside.next.qubits; list = map omega_value (take c.self.inside.next.rows c.normalize_front-self-inside.new.entries.items) } (weight_value c.normalize_front-self-inside.result) h.weight h.normal (omega (arith, ints, c.if-self-lt-SIZES.true)));
-    }
+invariant_of-self c = let i = c.self.invariant in let h = c.normalize_front-self-inside.ensures in next_placed c.self.inside _ _ i (same_block _ _ _ refl refl refl h.room i.next) ((h.weight, sealed_kept record { qubits = take c.self.inside.next.count c.self.inside.next.qubits; list = map omega_value (take c.self.inside.next.rows c.normalize_front-self-inside.new.entries.items) } (weight_value c.normalize_front-self-inside.result) h.weight h.normal (omega (arith, ints, c.if-self-lt-SIZE_LIMIT.true))))
 
-pub returns-then-self-lt-SIZES : goal.returns-then-self-lt-SIZES
-returns-then-self-lt-SIZES c =
+pub returns-then-self-lt-SIZE_LIMIT : goal.returns-then-self-lt-SIZE_LIMIT
+returns-then-self-lt-SIZE_LIMIT c =
     let h = c.normalize_front-self-inside.ensures in
-    sealed_ok c.args.self.now c.self.inside.limit (amplitudes_of c.self.inside.value) c.self.inside.stage (amplitudes_of c.self.inside.next) record { qubits = take c.self.inside.next.count c.self.inside.next.qubits; list = map omega_value (take c.self.inside.next.rows c.normalize_front-self-inside.new.entries.items) } c.self.view_is c.requires.open refl h.scaled (sealed_kept record { qubits = take c.self.inside.next.count c.self.inside.next.qubits; list = map omega_value (take c.self.inside.next.rows c.normalize_front-self-inside.new.entries.items) } (weight_value c.normalize_front-self-inside.result) h.weight h.normal (omega (arith, ints, c.if-self-lt-SIZES.true)))
+    sealed_ok c.args.self.now c.self.inside.limit (amplitudes_of c.self.inside.value) c.self.inside.stage (amplitudes_of c.self.inside.next) record { qubits = take c.self.inside.next.count c.self.inside.next.qubits; list = map omega_value (take c.self.inside.next.rows c.normalize_front-self-inside.new.entries.items) } c.self.view_is c.requires.open refl h.scaled (sealed_kept record { qubits = take c.self.inside.next.count c.self.inside.next.qubits; list = map omega_value (take c.self.inside.next.rows c.normalize_front-self-inside.new.entries.items) } (weight_value c.normalize_front-self-inside.result) h.weight h.normal (omega (arith, ints, c.if-self-lt-SIZE_LIMIT.true)))
 
-pub returns-else-self-lt-SIZES : goal.returns-else-self-lt-SIZES
-returns-else-self-lt-SIZES c =
+pub returns-else-self-lt-SIZE_LIMIT : goal.returns-else-self-lt-SIZE_LIMIT
+returns-else-self-lt-SIZE_LIMIT c =
     let i = c.self.invariant in let h = c.normalize_front-self-inside.ensures in
     let fits : FitsSigned w128 c.normalize_front-self-inside.result.x = search rules in
     let e : c.normalize_front-self-inside.result.x ≡ long c.normalize_front-self-inside.result.x = sym (to_z-of_z w128 c.normalize_front-self-inside.result.x fits) in
-    let k : pos (2 ^ 60) ≤ℤ long c.normalize_front-self-inside.result.x = omega (arith, ints, c.if-self-lt-SIZES.false) in
+    let k : pos (2 ^ 60) ≤ℤ long c.normalize_front-self-inside.result.x = omega (arith, ints, c.if-self-lt-SIZE_LIMIT.false) in
     refused c.args.self.now c.self.inside.limit (amplitudes_of c.self.inside.value) c.self.inside.stage (amplitudes_of c.self.inside.next) (long c.normalize_front-self-inside.result.x) c.self.view_is c.requires.open
     (block_rows c.self.inside.limit c.self.inside.next i.most i.next)
     (open_nonzero c.args.self.now c.self.inside.limit (amplitudes_of c.self.inside.value) c.self.inside.stage (amplitudes_of c.self.inside.next) c.self.view_is c.requires.open c.requires.nonzero)

@@ -1,7 +1,7 @@
-use Rattle.std.proofs.Common.{arith, ◌∙◌, refl, sym, subst}
+use Rattle.std.proofs.Common.{arith, ◌∙◌, refl}
 use Rattle.amplitude_register.specs.Held.{amplitudes_of, next_of}
-use Rattle.amplitude_register.proofs.Fields.{set_basis_is, kept_basis, basis_weighed, distinct_one, two_le}
-use Rattle.state_model.specs.Amplitudes.{AreDistinct}
+use Rattle.amplitude_register.proofs.Fields.{set_basis_is, kept_basis, basis_weighed, two_le}
+use Rattle.amplitude_register.proofs.Placed.{value_placed, one_block}
 use Rattle.amplitude_register.proofs.register.Register.set_basis.Goals as goal
 
 pub returns : goal.returns
@@ -11,20 +11,4 @@ pub write_basis-requires : goal.write_basis-requires
 write_basis-requires c = let i = c.self.invariant in let v = i.value in let r = v.room in let p = two_le c.self.inside.limit i.some in omega (arith, r, p)
 
 pub invariant_of-self : goal.invariant_of-self
-invariant_of-self c =
-    let i = c.self.invariant in let v = i.value in
-    record {
-      some = i.some;
-      most = i.most;
-      value = record {
-        rows = refl;
-        count = i.some;
-        room = c.write_basis.ensures.room ∙ v.room;
-        numbers = c.write_number.ensures.room;
-        distinct = subst AreDistinct (sym c.write_number.ensures.written) (distinct_one c.args.q);
-      };
-      next = i.next;
-      weighed = basis_weighed _ c.args.bit c.write_basis.ensures.written;
-      kept = kept_basis _ c.args.bit c.write_basis.ensures.written;
-      stage = i.stage;
-    }
+invariant_of-self c = let i = c.self.invariant in let b = i.value in value_placed c.self.inside _ i (one_block _ c.args.q _ i.some refl refl (c.write_basis.ensures.room ∙ b.room) c.write_number.ensures.room c.write_number.ensures.written) (basis_weighed _ c.args.bit c.write_basis.ensures.written) (kept_basis _ c.args.bit c.write_basis.ensures.written)

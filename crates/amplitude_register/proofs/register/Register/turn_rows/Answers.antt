@@ -1,36 +1,24 @@
-use Rattle.std.proofs.Common.{map, take, refl, ◌∙◌, arith}
+use Rattle.std.proofs.Common.{map, take, refl}
 use Rattle.amplitude_register.proofs.Fields.{block_room, place_below, has_place, present_range, stepped, gate_step, list_of, turned_stage, turned_scale}
 use Rattle.amplitude_register.specs.Held.{amplitudes_of}
 use Rattle.state_model.specs.declared.Gate.TheVariants.{RotZ}
 use Rattle.state_model.specs.Gate.{matrix}
 use Rattle.omega_ring.specs.Views.{omega_value}
 use Rattle.state_model.proofs.GateLists.{turned_weight}
+use Rattle.amplitude_register.proofs.Placed.{next_placed, same_block}
 use Rattle.amplitude_register.proofs.register.Register.turn_rows.Goals as goal
 
 pub turn_front-requires-clause-rows : goal.turn_front-requires-clause-rows
 turn_front-requires-clause-rows c = let i = c.self.invariant in block_room c.self.inside.limit c.self.inside.next i.next
 
 pub turn_front-requires-clause-place : goal.turn_front-requires-clause-place
-turn_front-requires-clause-place c = let i = c.self.invariant in has_place c.self.inside.limit c.args.place c.self.inside.next i.next (place_below c.args.self.now c.self.inside.limit (amplitudes_of c.self.inside.value) c.self.inside.stage c.self.inside.next c.args.place i.most i.next c.self.view_is c.requires.present c.requires.place)
-
-pub turn_front-requires-clause-low : goal.turn_front-requires-clause-low
-turn_front-requires-clause-low c = let i = c.self.invariant in let n = i.next in let l = place_below c.args.self.now c.self.inside.limit (amplitudes_of c.self.inside.value) c.self.inside.stage c.self.inside.next c.args.place i.most i.next c.self.view_is c.requires.present c.requires.place in let k = n.count in let m = i.most in omega (arith, l, k, m)
+turn_front-requires-clause-place c = let i = c.self.invariant in has_place c.self.inside.limit c.args.place c.self.inside.next i.most i.next (place_below c.args.self.now c.self.inside.limit (amplitudes_of c.self.inside.value) c.self.inside.stage c.self.inside.next c.args.place i.most i.next c.self.view_is c.requires.present c.requires.place)
 
 pub turn_front-requires-clause-range : goal.turn_front-requires-clause-range
 turn_front-requires-clause-range c = present_range c.args.self.now c.self.inside.limit (amplitudes_of c.self.inside.value) c.self.inside.stage c.self.inside.next c.self.view_is c.requires.present c.requires.small
 
 pub invariant_of-self : goal.invariant_of-self
-invariant_of-self c =
-    let i = c.self.invariant in let n = i.next in
-    record {
-      some = i.some;
-      most = i.most;
-      value = i.value;
-      next = record { rows = n.rows; count = n.count; room = c.turn_front.ensures.room ∙ n.room; numbers = n.numbers; distinct = n.distinct };
-      weighed = i.weighed;
-      kept = i.kept;
-      stage = turned_stage (RotZ c.args.eighths) c.args.place c.self.inside.stage c.self.inside.next record { qubits = c.self.inside.next.qubits; count = c.self.inside.next.count; rows = c.self.inside.next.rows; weight = c.self.inside.next.weight; entries = c.turn_front.new.entries } (turned_scale c.args.eighths) refl refl refl c.turn_front.ensures.list (stepped (matrix (RotZ c.args.eighths)) 1 c.args.place c.self.inside.limit c.self.inside.next c.turn_front.new.entries.items i.next (place_below c.args.self.now c.self.inside.limit (amplitudes_of c.self.inside.value) c.self.inside.stage c.self.inside.next c.args.place i.most i.next c.self.view_is c.requires.present c.requires.place) c.turn_front.ensures.room (turned_weight c.args.eighths) c.turn_front.ensures.list) i.stage;
-    }
+invariant_of-self c = let i = c.self.invariant in next_placed c.self.inside _ _ i (same_block _ _ _ refl refl refl c.turn_front.ensures.room i.next) (turned_stage (RotZ c.args.eighths) c.args.place c.self.inside.stage c.self.inside.next record { qubits = c.self.inside.next.qubits; count = c.self.inside.next.count; rows = c.self.inside.next.rows; weight = c.self.inside.next.weight; entries = c.turn_front.new.entries } (turned_scale c.args.eighths) refl refl refl c.turn_front.ensures.list (stepped (matrix (RotZ c.args.eighths)) 1 c.args.place c.self.inside.limit c.self.inside.next c.turn_front.new.entries.items i.next (place_below c.args.self.now c.self.inside.limit (amplitudes_of c.self.inside.value) c.self.inside.stage c.self.inside.next c.args.place i.most i.next c.self.view_is c.requires.present c.requires.place) c.turn_front.ensures.room (turned_weight c.args.eighths) c.turn_front.ensures.list) i.stage)
 
 pub returns : goal.returns
 returns c =

@@ -1,14 +1,12 @@
-use Rattle.std.proofs.Common.{rules, arith, FitsSigned, sym, ap, subst, ◌∙◌, ◌≡◌, ◌<◌, ◌^◌, to_z, of_z, unsigned_abs}
-use Rattle.std.proofs.lemmas.Int.{to_z-of_z}
+use Rattle.std.proofs.Common.{rules, arith, sym, ap, subst, ◌∙◌, ◌≡◌, ◌^◌, to_z, of_z}
 use mir.Syntax.{w128}
-use Rattle.state_model.specs.Coefficient.{Coefficient, conjugate, ◌⊗◌}
-use Rattle.state_model.specs.Divisors.{norm, weight_norm}
+use Rattle.state_model.specs.Coefficient.{Coefficient, ◌⊗◌}
+use Rattle.state_model.specs.Divisors.{norm}
 use Rattle.omega_ring.specs.Range.{CoordinatesBelow, CoordinatesUpTo}
-use Rattle.omega_ring.specs.Steps.{conjugate_weight}
 use Rattle.omega_ring.specs.Views.{wide_value, weight_value}
 use Rattle.state_model.proofs.Division.{companion}
 use Rattle.state_model.proofs.Norms.{norm_positive}
-use Rattle.omega_ring.proofs.Rounding.{nearest_along, numerator_size, weight_fields, within_conjugate, up_to, within_up, within_weight}
+use Rattle.omega_ring.proofs.Rounding.{companion_of, norm_of, nearest_along, numerator_size, weight_fields, within_conjugate, up_to, within_up, within_weight}
 use Rattle.omega_ring.proofs.Sizes.{IsSmall, companion_small, ready_small}
 use Rattle.omega_ring.proofs.coefficients.Wide.quotient.Goals as goal
 
@@ -22,17 +20,8 @@ conj-requires c =
     let s : IsSmall (wide_value c.args.u) = ready_small (wide_value c.args.u) c.requires.right in
     up_to (2 ^ 31) (2 ^ 125) (wide_value c.args.u) s.coordinates (omega arith)
 
-pub conjugate-requires-clause-x : goal.conjugate-requires-clause-x
-conjugate-requires-clause-x c =
-    let s : IsSmall (wide_value c.args.u) = ready_small (wide_value c.args.u) c.requires.right in
-    let k : (unsigned_abs c.weight-w.result.x < 2 ^ 62) × (unsigned_abs c.weight-w.result.y < 2 ^ 62) = weight_fields (wide_value c.args.u) (weight_value c.weight-w.result) c.weight-w.ensures s in
-    k.0
-
-pub conjugate-requires-clause-y : goal.conjugate-requires-clause-y
-conjugate-requires-clause-y c =
-    let s : IsSmall (wide_value c.args.u) = ready_small (wide_value c.args.u) c.requires.right in
-    let k : (unsigned_abs c.weight-w.result.x < 2 ^ 62) × (unsigned_abs c.weight-w.result.y < 2 ^ 62) = weight_fields (wide_value c.args.u) (weight_value c.weight-w.result) c.weight-w.ensures s in
-    k.1
+pub conjugate-requires : goal.conjugate-requires
+conjugate-requires c = weight_fields (wide_value c.args.u) (weight_value c.weight-w.result) c.weight-w.ensures (ready_small (wide_value c.args.u) c.requires.right)
 
 pub product-requires-clause-left : goal.product-requires-clause-left
 product-requires-clause-left c =
@@ -40,10 +29,7 @@ product-requires-clause-left c =
     subst (CoordinatesBelow (2 ^ 31)) (sym c.conj.ensures) (within_conjugate (2 ^ 31) (wide_value c.args.u) s.coordinates)
 
 pub product-requires-clause-right : goal.product-requires-clause-right
-product-requires-clause-right c =
-    let s : IsSmall (wide_value c.args.u) = ready_small (wide_value c.args.u) c.requires.right in
-    let k : (unsigned_abs c.weight-w.result.x < 2 ^ 62) × (unsigned_abs c.weight-w.result.y < 2 ^ 62) = weight_fields (wide_value c.args.u) (weight_value c.weight-w.result) c.weight-w.ensures s in
-    subst (CoordinatesUpTo (2 ^ 94)) (sym c.conjugate.ensures) (within_weight (weight_value c.weight-w.result) (k.0) (k.1))
+product-requires-clause-right c = subst (CoordinatesUpTo (2 ^ 94)) (sym c.conjugate.ensures) (within_weight (weight_value c.weight-w.result) (weight_fields (wide_value c.args.u) (weight_value c.weight-w.result) c.weight-w.ensures (ready_small (wide_value c.args.u) c.requires.right)))
 
 pub product-numerator-requires-clause-left : goal.product-numerator-requires-clause-left
 product-numerator-requires-clause-left c = c.requires.left
@@ -51,45 +37,32 @@ product-numerator-requires-clause-left c = c.requires.left
 pub product-numerator-requires-clause-right : goal.product-numerator-requires-clause-right
 product-numerator-requires-clause-right c =
     let s : IsSmall (wide_value c.args.u) = ready_small (wide_value c.args.u) c.requires.right in
-    let e : wide_value c.product.result ≡ companion (wide_value c.args.u) = c.product.ensures ∙ ap (λ (t : Coefficient). t ⊗ wide_value c.conjugate.result) c.conj.ensures ∙ ap (λ (t : Coefficient). conjugate (wide_value c.args.u) ⊗ t) (c.conjugate.ensures ∙ ap conjugate_weight c.weight-w.ensures) in
+    let e = companion_of (wide_value c.args.u) (wide_value c.product.result) (wide_value c.conj.result) (wide_value c.conjugate.result) (weight_value c.weight-w.result) c.product.ensures c.conj.ensures c.conjugate.ensures c.weight-w.ensures in
     subst (CoordinatesUpTo (2 ^ 94)) (sym e) (companion_small (wide_value c.args.u) c.requires.right.balanced s)
 
-pub norm-requires-clause-x : goal.norm-requires-clause-x
-norm-requires-clause-x c =
-    let s : IsSmall (wide_value c.args.u) = ready_small (wide_value c.args.u) c.requires.right in
-    let k : (unsigned_abs c.weight-w.result.x < 2 ^ 62) × (unsigned_abs c.weight-w.result.y < 2 ^ 62) = weight_fields (wide_value c.args.u) (weight_value c.weight-w.result) c.weight-w.ensures s in
-    k.0
-
-pub norm-requires-clause-y : goal.norm-requires-clause-y
-norm-requires-clause-y c =
-    let s : IsSmall (wide_value c.args.u) = ready_small (wide_value c.args.u) c.requires.right in
-    let k : (unsigned_abs c.weight-w.result.x < 2 ^ 62) × (unsigned_abs c.weight-w.result.y < 2 ^ 62) = weight_fields (wide_value c.args.u) (weight_value c.weight-w.result) c.weight-w.ensures s in
-    k.1
+pub norm-requires : goal.norm-requires
+norm-requires c = weight_fields (wide_value c.args.u) (weight_value c.weight-w.result) c.weight-w.ensures (ready_small (wide_value c.args.u) c.requires.right)
 
 pub rounded-requires-clause-positive : goal.rounded-requires-clause-positive
 rounded-requires-clause-positive c =
-    let f : FitsSigned w128 c.norm.result = search rules in
-    let n : to_z w128 (of_z w128 c.norm.result) ≡ norm (wide_value c.args.u) = to_z-of_z w128 c.norm.result f ∙ c.norm.ensures ∙ ap weight_norm c.weight-w.ensures in
+    let n = norm_of c.norm.result (wide_value c.args.u) (weight_value c.weight-w.result) (search rules) c.norm.ensures c.weight-w.ensures in
     rw n (norm_positive (wide_value c.args.u) c.requires.nonzero)
 
 pub rounded-requires-clause-size : goal.rounded-requires-clause-size
 rounded-requires-clause-size c =
-    let f : FitsSigned w128 c.norm.result = search rules in
-    let n : to_z w128 (of_z w128 c.norm.result) ≡ norm (wide_value c.args.u) = to_z-of_z w128 c.norm.result f ∙ c.norm.ensures ∙ ap weight_norm c.weight-w.ensures in
-    let e : wide_value c.product.result ≡ companion (wide_value c.args.u) = c.product.ensures ∙ ap (λ (t : Coefficient). t ⊗ wide_value c.conjugate.result) c.conj.ensures ∙ ap (λ (t : Coefficient). conjugate (wide_value c.args.u) ⊗ t) (c.conjugate.ensures ∙ ap conjugate_weight c.weight-w.ensures) in
+    let n = norm_of c.norm.result (wide_value c.args.u) (weight_value c.weight-w.result) (search rules) c.norm.ensures c.weight-w.ensures in
+    let e = companion_of (wide_value c.args.u) (wide_value c.product.result) (wide_value c.conj.result) (wide_value c.conjugate.result) (weight_value c.weight-w.result) c.product.ensures c.conj.ensures c.conjugate.ensures c.weight-w.ensures in
     let t : wide_value c.product-numerator.result ≡ wide_value c.args.self ⊗ companion (wide_value c.args.u) = c.product-numerator.ensures ∙ ap (λ (t : Coefficient). wide_value c.args.self ⊗ t) e in
     numerator_size (wide_value c.args.self) (wide_value c.args.u) (wide_value c.product-numerator.result) (to_z w128 (of_z w128 c.norm.result)) c.requires.left c.requires.right (norm_positive (wide_value c.args.u) c.requires.nonzero) n t
 
 pub returns-clause-nearest : goal.returns-clause-nearest
 returns-clause-nearest c =
-    let f : FitsSigned w128 c.norm.result = search rules in
-    let n : to_z w128 (of_z w128 c.norm.result) ≡ norm (wide_value c.args.u) = to_z-of_z w128 c.norm.result f ∙ c.norm.ensures ∙ ap weight_norm c.weight-w.ensures in
-    let e : wide_value c.product.result ≡ companion (wide_value c.args.u) = c.product.ensures ∙ ap (λ (t : Coefficient). t ⊗ wide_value c.conjugate.result) c.conj.ensures ∙ ap (λ (t : Coefficient). conjugate (wide_value c.args.u) ⊗ t) (c.conjugate.ensures ∙ ap conjugate_weight c.weight-w.ensures) in
+    let n = norm_of c.norm.result (wide_value c.args.u) (weight_value c.weight-w.result) (search rules) c.norm.ensures c.weight-w.ensures in
+    let e = companion_of (wide_value c.args.u) (wide_value c.product.result) (wide_value c.conj.result) (wide_value c.conjugate.result) (weight_value c.weight-w.result) c.product.ensures c.conj.ensures c.conjugate.ensures c.weight-w.ensures in
     let t : wide_value c.product-numerator.result ≡ wide_value c.args.self ⊗ companion (wide_value c.args.u) = c.product-numerator.ensures ∙ ap (λ (t : Coefficient). wide_value c.args.self ⊗ t) e in
     nearest_along (norm (wide_value c.args.u)) (to_z w128 (of_z w128 c.norm.result)) (wide_value c.args.self ⊗ companion (wide_value c.args.u)) (wide_value c.product-numerator.result) (wide_value c.rounded.result) n t c.rounded.ensures.nearest
 
 pub rounded-requires-clause-small : goal.rounded-requires-clause-small
 rounded-requires-clause-small c =
-    let f : FitsSigned w128 c.norm.result = search rules in
-    let n : to_z w128 (of_z w128 c.norm.result) ≡ norm (wide_value c.args.u) = to_z-of_z w128 c.norm.result f ∙ c.norm.ensures ∙ ap weight_norm c.weight-w.ensures in
+    let n = norm_of c.norm.result (wide_value c.args.u) (weight_value c.weight-w.result) (search rules) c.norm.ensures c.weight-w.ensures in
     rw n c.requires.right.small

@@ -1,7 +1,0 @@
-use Rattle.std.proofs.Common.{arith}
-use Rattle.std.proofs.lemmas.Int.{ints}
-use Rattle.state_model.proofs.Ring.{same_coordinates}
-use Rattle.amplitude_register.proofs.scalars.opposite.Goals as goal
-
-pub returns : goal.returns
-returns c = let r = c.requires in same_coordinates _ _ (omega (arith, ints, r.a)) (omega (arith, ints, r.b)) (omega (arith, ints, r.c)) (omega (arith, ints, r.d))

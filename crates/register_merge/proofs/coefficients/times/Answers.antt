@@ -1,8 +1,0 @@
-use Rattle.register_merge.proofs.Stored.{short_size, short_product}
-use Rattle.register_merge.proofs.coefficients.times.Goals as goal
-
-pub returns-clause-value : goal.returns-clause-value
-returns-clause-value c = short_product c.args.m c.args.n c.requires.left c.requires.right
-
-pub returns-clause-small : goal.returns-clause-small
-returns-clause-small c = rw (short_product c.args.m c.args.n c.requires.left c.requires.right) (short_size c.args.m c.args.n c.requires.left c.requires.right)
