@@ -1,0 +1,9 @@
+pub mod PlainWords
+pub mod NumberWords
+pub mod FoundLemmas
+pub mod CommandLemmas
+pub mod PipeLemmas
+pub mod ReplayLemmas
+pub mod TalkLemmas
+pub mod DrillLemmas
+pub mod ModeLemmas
