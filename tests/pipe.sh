@@ -29,6 +29,12 @@ expect 'HELLO' 0 $hello '' $hello pipe
 expect 'NEW, H and MEASURE draw the first word' 0 ${new}020700000000000100 '' \
     020100000000000c000001000000110000000200 pipe
 expect 'DONE follows a NOTIFY' 0 ${new}0204000000000000 '' 020100000000000400000105 pipe
+expect 'ALLOCATE makes qubits, and DONE follows a NOTIFY' 0 "${new}020a0000000000020001020a00000000000200020204000000000000" '' \
+    020100000000000400031601 pipe
+expect 'FACTORY repeats its commands, and DONE follows its own NOTIFY' 0 "${new}020a00000000000200010204000000000000" '' \
+    0202000000000006020100000100 pipe
+expect 'FACTORY that repeats nothing is done' 0 0204000000000000 '' 0202000000000006000100000100 pipe
+expect 'FACTORY without its options' 0 0214000000000000 '' 020200000000000102 pipe
 expect 'another type' 0 0216000000000000 '' 0208000000000000 pipe
 expect 'a header cut short' 5 '' '' 020100 pipe
 expect 'a body cut short' 5 $hello '' ${hello}020100000000000c0000010000 pipe
@@ -66,10 +72,33 @@ expect 'examples/bell.cqc' 0 \
     ${hello_7}${new_7}${second_7}${outcome_7}00${outcome_7}00${new_7}${second_7}${outcome_7}01${outcome_7}01${done_7} '' \
     "$(hex "$top/examples/bell.cqc")" pipe
 
-# a closed output is a fault
-bytes $hello | "$top/qron" pipe >&- 2>"$room/err"
-got="${PIPESTATUS[1]} $(cat "$room/err")"
-[ "$got" = "4 qron: fault" ] || { echo "closed output: got $got" >&2; failed=1; }
+# fault NAME: what stands in $room/got is a fault's status, and one complaint
+fault() { [ "$(cat "$room/got")" = '4 qron: fault' ] || { echo "$1: got $(cat "$room/got")" >&2; failed=1; }; }
+
+# an output that is closed, or full
+bytes $hello | { "$top/qron" pipe >&- 2>"$room/err"; echo "$? $(cat "$room/err")" >"$room/got"; }
+fault 'closed output'
+bytes $hello | { "$top/qron" pipe >/dev/full 2>"$room/err"; echo "$? $(cat "$room/err")" >"$room/got"; }
+fault 'full output'
+
+# 65,536 commands that are refused fill the journal; the next one ends the session with GENERAL
+bytes 020100000000000400001100 >"$room/one"
+for _ in {1..17}; do
+    cat "$room/one" "$room/one" >"$room/two"
+    mv "$room/two" "$room/one"
+done
+"$top/qron" pipe <"$room/one" >"$room/out" 2>"$room/err"
+got="$? $(wc -c <"$room/out") $(tail -c 16 "$room/out" | od -An -v -tx1 | tr -d ' \n') $(cat "$room/err")"
+[ "$got" = '5 524296 02190000000000000214000000000000 ' ] || { echo "full journal: got $got" >&2; failed=1; }
+
+# the same where the output takes 512 KiB, which is all but the last reply: sending what was gathered at the end fails
+(
+    ulimit -f 512
+    trap '' XFSZ
+    "$top/qron" pipe <"$room/one" >"$room/out" 2>"$room/err"
+    echo "$? $(cat "$room/err")" >"$room/got"
+)
+fault 'full output at the end'
 
 # from another folder
 (cd / && bytes $hello | "$top/qron" pipe >"$room/out")

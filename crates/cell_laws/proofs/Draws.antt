@@ -13,7 +13,7 @@ use Rattle.network_model.specs.Factored.{FitsSlot}
 use Rattle.cell_laws.specs.Standing.{IsStanding}
 use Rattle.state_model.proofs.Booleans.{and_true, and_false, clash, or_true, or_false}
 use Rattle.state_model.proofs.Domain.{⊗-domain, zero_coefficient-⊗}
-use Rattle.state_model.proofs.Draws.{weight_above}
+use Rattle.state_model.proofs.Draws.{weight_above, times, weight-⊗}
 use Rattle.state_model.proofs.Kept.{rows_complete, within_twice}
 use Rattle.state_model.proofs.Numbers.{is_listed-filter, is_listed-snoc}
 use Rattle.state_model.proofs.Order.{IsAbove}
@@ -25,7 +25,7 @@ use Rattle.state_model.proofs.RowLaws.{same_row, is_set-within, is_set-within_in
 use Rattle.state_model.proofs.SameStates.{stable}
 use Rattle.cell_laws.proofs.Lengths.{HaveSameMembers, distinct_append, weight_on-members}
 use Rattle.cell_laws.proofs.Members.{distinct_filter, live_distinct, listed_home, at_home}
-use Rattle.cell_laws.proofs.Weights.{weights_above, times, weight-⊗, times-scaled, times-none, less_along, split_sum}
+use Rattle.cell_laws.proofs.Weights.{weights_above, times-scaled, times-none, less_along, split_sum}
 
 bool_stable : (a b : Bool) → ¬ (a ≢ b) → a ≡ b
 bool_stable true true h = refl

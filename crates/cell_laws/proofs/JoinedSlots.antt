@@ -56,20 +56,13 @@ module _ (shape : Shape) (s : Network) (home : ℕ → ℕ) (p q : ℕ) (r1 r2 :
   its_both = is_listed-snoc r1.qubits r2.qubits q ∙ ap (λ b. is_listed r1.qubits q || b) its ∙ or_true (is_listed r1.qubits q)
 
   -- ---- the united group
-  -- a register has the live numbers with the label
-  by_label : (x : ℕ) → (is_listed s.live x && (s.label x == s.label p)) ≡ is_listed r1.qubits x
-  by_label x = by (is_listed s.live x) refl ∙ sym (fits_p.homes x)
+  -- a register has the live numbers with its number's label
+  by_label : (x n : ℕ) (r : Register) → is_listed s.live n ≡ true → FitsSlot shape s home (home n) r → (is_listed s.live x && (s.label x == s.label n)) ≡ is_listed r.qubits x
+  by_label x n r live fits = by (is_listed s.live x) refl ∙ sym (fits.homes x)
     where
-      by : (t : Bool) → is_listed s.live x ≡ t → (is_listed s.live x && (s.label x == s.label p)) ≡ (is_listed s.live x && (home x == home p))
-      by true e = ap (λ b. is_listed s.live x && b) (sym (standing.housed x p e live_p))
-      by false e = ap (λ b. b && (s.label x == s.label p)) e ∙ sym (ap (λ b. b && (home x == home p)) e)
-
-  by_other_label : (x : ℕ) → (is_listed s.live x && (s.label x == s.label q)) ≡ is_listed r2.qubits x
-  by_other_label x = by (is_listed s.live x) refl ∙ sym (fits_q.homes x)
-    where
-      by : (t : Bool) → is_listed s.live x ≡ t → (is_listed s.live x && (s.label x == s.label q)) ≡ (is_listed s.live x && (home x == home q))
-      by true e = ap (λ b. is_listed s.live x && b) (sym (standing.housed x q e live_q))
-      by false e = ap (λ b. b && (s.label x == s.label q)) e ∙ sym (ap (λ b. b && (home x == home q)) e)
+      by : (t : Bool) → is_listed s.live x ≡ t → (is_listed s.live x && (s.label x == s.label n)) ≡ (is_listed s.live x && (home x == home n))
+      by true e = ap (λ b. is_listed s.live x && b) (sym (standing.housed x n e live))
+      by false e = ap (λ b. b && (s.label x == s.label n)) e ∙ sym (ap (λ b. b && (home x == home n)) e)
 
   and_or : (a b c : Bool) → (a && (b || c)) ≡ ((a && b) || (a && c))
   and_or true b c = refl
@@ -79,7 +72,7 @@ module _ (shape : Shape) (s : Network) (home : ℕ → ℕ) (p q : ℕ) (r1 r2 :
   unfolding united_group
   united_members x =
       is_listed-filter (λ r. (s.label r == s.label p) || (s.label r == s.label q)) s.live x ∙ and_or (is_listed s.live x) (s.label x == s.label p) (s.label x == s.label q)
-      ∙ ap (λ b. b || (is_listed s.live x && (s.label x == s.label q))) (by_label x) ∙ ap (λ b. is_listed r1.qubits x || b) (by_other_label x) ∙ sym (is_listed-snoc r1.qubits r2.qubits x)
+      ∙ ap (λ b. b || (is_listed s.live x && (s.label x == s.label q))) (by_label x p r1 live_p fits_p) ∙ ap (λ b. is_listed r1.qubits x || b) (by_label x q r2 live_q fits_q) ∙ sym (is_listed-snoc r1.qubits r2.qubits x)
 
   united_distinct : AreDistinct (united_group s p q)
   unfolding united_group

@@ -16,7 +16,7 @@ use Rattle.state_model.proofs.Numbers.{is_listed-without, is_listed-snoc}
 use Rattle.state_model.proofs.Registers.{AreDistinct as AreDistinctRows}
 use Rattle.state_model.proofs.RegisterSums.{weight_on, weight_of-rows, squares-weight_of}
 use Rattle.state_model.proofs.RowLaws.{same_row, is_set-within, is_set-with_bit_same, is_set-with_bit_other}
-use Rattle.state_model.proofs.Sizes.{without-same, without-other, without_absent}
+use Rattle.state_model.proofs.Sizes.{without-same, without-other, without_absent, with_bit_swap}
 
 -- two lists have the same members
 abbrev pub HaveSameMembers : List ℕ → List ℕ → Type 0
@@ -91,19 +91,6 @@ same_length (q ∷ a) b apart other same =
 -- ---- sums over rows
 pub middle : (a b c d : Weight) → weight_sum (weight_sum a b) (weight_sum c d) ≡ weight_sum (weight_sum a c) (weight_sum b d)
 middle a b c d = same_weight _ _ (omega (arith, ints)) (omega (arith, ints))
-
--- bits of different qubits are set in any order
-pub with_bit_swap : (p : ℕ) (b : Bool) (q : ℕ) (c : Bool) (x : ℕ) → p ≢ q → with_bit p b (with_bit q c x) ≡ with_bit q c (with_bit p b x)
-with_bit_swap p b q c x apart = same_row _ _ (λ r. at r (r == p) refl (r == q) refl)
-  where
-    at : (r : ℕ) (s : Bool) → (r == p) ≡ s → (t : Bool) → (r == q) ≡ t → is_set r (with_bit p b (with_bit q c x)) ≡ is_set r (with_bit q c (with_bit p b x))
-    at r true e t f =
-        let is = eq_of r p e in
-        ap (λ n. is_set n (with_bit p b (with_bit q c x))) is ∙ is_set-with_bit_same p b _ ∙ sym (ap (λ n. is_set n (with_bit q c (with_bit p b x))) is ∙ is_set-with_bit_other p q c _ apart ∙ is_set-with_bit_same p b x)
-    at r false e true f =
-        let is = eq_of r q f in
-        ap (λ n. is_set n (with_bit p b (with_bit q c x))) is ∙ is_set-with_bit_other q p b _ (λ h. apart (sym h)) ∙ is_set-with_bit_same q c x ∙ sym (ap (λ n. is_set n (with_bit q c (with_bit p b x))) is ∙ is_set-with_bit_same q c _)
-    at r false e false f = is_set-with_bit_other r p b _ (ne_of r p e) ∙ is_set-with_bit_other r q c x (ne_of r q f) ∙ sym (is_set-with_bit_other r q c _ (ne_of r q f) ∙ is_set-with_bit_other r p b x (ne_of r p e))
 
 -- a sum by the bit of one member
 pub weight_on-member : (g : List ℕ) (q : ℕ) → AreDistinct g → is_listed g q ≡ true → (f : ℕ → Weight)

@@ -1,7 +1,6 @@
 pub mod Draws
 pub mod FreePlaces
 pub mod GateSlots
-pub mod Instructions
 pub mod JoinedSlots
 pub mod Lengths
 pub mod LiveCounts

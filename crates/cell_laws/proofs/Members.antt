@@ -16,28 +16,10 @@ use Rattle.state_model.proofs.Numbers.{is_listed-filter}
 use Rattle.state_model.proofs.Parts.{part_along, size_by_part, whole_part}
 use Rattle.state_model.proofs.RegisterLists.{vector-over}
 use Rattle.state_model.proofs.SameStates.{same_symmetric, same_reflexive}
-use Rattle.network_model.proofs.Counting.{count-cons, count_listed}
+use Rattle.network_model.proofs.GroupSteps.{distinct_once}
 use Rattle.cell_laws.proofs.Lengths.{HaveSameMembers, same_length, same_members_size}
 
 -- ---- distinct numbers
--- numbers that are counted once are distinct
-pub distinct_once : (g : List ℕ) → ((q : ℕ) → count_by (λ p. p == q) g ≤ 1) → AreDistinct g
-distinct_once [] once = tt
-distinct_once (x ∷ xs) once = (
-  unlisted (is_listed xs x) refl,
-  distinct_once xs (λ q. rest _ _ (subst (λ n. n ≤ 1) (count-cons (λ p. p == q) x xs) (once q))),
-)
-  where
-    rest : (m n : ℕ) → m + n ≤ 1 → n ≤ 1
-    rest m n h = omega arith
-
-    two : (n : ℕ) → 1 + n ≤ 1 → 1 ≤ n → ⊥
-    two n a b = omega arith
-
-    unlisted : (t : Bool) → is_listed xs x ≡ t → is_listed xs x ≡ false
-    unlisted true e = absurd (two _ (subst (λ b. cond b 1 0 + count_by (λ p. p == x) xs ≤ 1) (eq_true x x refl) (subst (λ n. n ≤ 1) (count-cons (λ p. p == x) x xs) (once x))) (count_listed xs x e))
-    unlisted false e = e
-
 pub distinct_filter : (test : ℕ → Bool) (g : List ℕ) → AreDistinct g → AreDistinct (filter test g)
 distinct_filter test [] apart = tt
 distinct_filter test (q ∷ g) apart = by (test q) (distinct_filter test g (apart.1))

@@ -16,6 +16,7 @@ use Rattle.state_model.proofs.Numbers.{is_listed-snoc, one_listed}
 use Rattle.state_model.proofs.Operations.{no_row}
 use Rattle.state_model.proofs.Small.{certain_qubits_have_registers, new_pairs_have_registers}
 use Rattle.network_model.proofs.Added.{least_free_low, members-added_self}
+use Rattle.network_model.proofs.Homes.{at_moved, moved_other, with_label-moved, each_of_two}
 use Rattle.network_model.proofs.Least.{least_free_new}
 use Rattle.network_model.proofs.SoundParts.{sound_labels}
 use Rattle.cell_laws.proofs.Lengths.{first_listed}
@@ -35,33 +36,14 @@ abbrev pub with_pair : Network → ℕ → ℕ → List Held → List Waiting �
 with_pair s p q held waiting pairs = record { vector = paired p q s.vector; live = s.live ++ p ∷ q ∷ []; label = with_label (with_label s.label p p) q p; held = held; waiting = waiting; pairs = pairs }
 
 -- ---- values that are given
-at_moved : (f : ℕ → ℕ) (q l : ℕ) → moved f q l q ≡ l
-unfolding moved
-at_moved f q l = ap (λ t. cond t l (f q)) (eq_true q q refl)
-
-moved_other : (f : ℕ → ℕ) (q l x : ℕ) → x ≢ q → moved f q l x ≡ f x
-unfolding moved
-moved_other f q l x e = ap (λ t. cond t l (f x)) (eq_false x q e)
-
 at_label : (f : ℕ → ℕ) (q l : ℕ) → with_label f q l q ≡ l
-unfolding with_label
-at_label f q l = ap (λ t. cond t l (f q)) (eq_true q q refl)
+at_label f q l = ap (λ (g : ℕ → ℕ). g q) (with_label-moved f q l) ∙ at_moved f q l
 
 label_other : (f : ℕ → ℕ) (q l x : ℕ) → x ≢ q → with_label f q l x ≡ f x
-unfolding with_label
-label_other f q l x e = ap (λ t. cond t l (f x)) (eq_false x q e)
+label_other f q l x e = ap (λ (g : ℕ → ℕ). g x) (with_label-moved f q l) ∙ moved_other f q l x e
 
 no_less : (m n : ℕ) → m ≡ n → m ≤ n
 no_less m n e = omega arith
-
--- what holds of both holds of each listed
-each_of_two : (P : ℕ → Type 0) → (a b : ℕ) → P a → P b → (x : ℕ) → is_listed (a ∷ b ∷ []) x ≡ true → P x
-unfolding is_listed
-each_of_two P a b one two x i = by (a == x) refl
-  where
-    by : (t : Bool) → (a == x) ≡ t → P x
-    by true e = subst P (eq_of a x e) one
-    by false e = subst P (eq_of b x (sym (or_false (b == x)) ∙ sym (ap (λ t. t || ((b == x) || false)) e) ∙ i)) two
 
 -- numbers that come to a slot where no live number has its home are all that have theirs there
 here : (live ns : List ℕ) (home home' : ℕ → ℕ) (slot : ℕ)

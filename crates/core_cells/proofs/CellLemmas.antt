@@ -1,10 +1,18 @@
 -- Cells that are put: what is there afterwards, and that putting what is there changes nothing.
 use Rattle.std.proofs.Common.{◌≡◌, ◌≢◌, ℕ, ◌==◌, Bool, true, false, cond, Option, Some, None, IsSome, refl, sym, ap, subst, ◌∙◌}
+use mathlib.Core.Path.{fun_ext}
 use Rattle.state_model.proofs.Booleans.{eq_true, eq_false, eq_of}
 use Rattle.core_cells.specs.declared.cells.NodePair.{NodePair}
 use Rattle.core_cells.specs.declared.cells.PoolPair.{PoolPair}
 use Rattle.core_cells.specs.declared.cells.SlotCell.{SlotCell}
 use Rattle.core_cells.specs.Cells.{Cells, put_node, put_pool, put_slot}
+
+-- cells are the same where their nodes, pool and slots are
+pub cells_by : (a b : Cells) → ((m : ℕ) → a.node m ≡ b.node m) → a.pool ≡ b.pool → ((t : ℕ) → a.slot t ≡ b.slot t) → a ≡ b
+cells_by a b nodes pool slots =
+    ap (λ f. record a { node = f }) (fun_ext nodes)
+    ∙ ap (λ p. record a { node = b.node; pool = p }) pool
+    ∙ ap (λ f. record b { slot = f }) (fun_ext slots)
 
 -- ---- options, read at a number where one of them was put
 pub at_put : {A : Type 0} (get : ℕ → Option A) (k : ℕ) (w : A) → cond (k == k) (Some w) (get k) ≡ Some w

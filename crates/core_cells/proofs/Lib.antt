@@ -1,6 +1,8 @@
 pub mod MarkLemmas
 pub mod PoolLemmas
 pub mod CellLemmas
+pub mod Named
+pub mod Presence
 pub mod OwnedLemmas
 pub mod RegisterLemmas
 pub mod Within

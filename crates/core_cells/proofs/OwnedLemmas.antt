@@ -44,7 +44,7 @@ new_node_fits : (m : ℕ) → FitsNode opening m (held_map empty_node) (arrived_
 unfolding opening held_number queue
 new_node_fits m = record { handles = λ app id. refl; queues = λ app line. refl }
 
-new_slot_fits : (shape : Shape) (limit t : ℕ) → limit ≡ shape.limit → FitsSlot shape opening (λ q. 0) t (register_of (empty_slot limit).register)
+pub new_slot_fits : (shape : Shape) (limit t : ℕ) → limit ≡ shape.limit → FitsSlot shape opening (λ q. 0) t (register_of (empty_slot limit).register)
 unfolding opening is_listed
 new_slot_fits shape limit t is = record { limit = is; homes = λ q. refl; group = λ p q h. cc; part = λ p h. cc }
 

@@ -1,6 +1,7 @@
 pub mod Marks
 pub mod Pool
 pub mod Cells
+pub mod Names
 pub mod Owned
 pub mod Lending
 pub mod OwnedLaws

@@ -1,9 +1,11 @@
 // What is done to one cell of a board.
-ghost use Rattle.std.specs.Prelude.{◌≡◌, ℕ, Some, IsSome};
-ghost use Rattle.core_cells.specs.Cells.{put_node, put_pool, put_slot, settled_node, settled_pool, settled_slot, forgotten_node, forgotten_pool, forgotten_slot};
+ghost use Rattle.std.specs.Prelude.{◌≡◌, ℕ, [], ◌∷◌, Some, IsSome};
+ghost use Rattle.core_cells.specs.Cells.{put_node, put_pool};
+ghost use Rattle.core_cells.specs.Names.{AreThere, done_by, on_named};
 
 use crate::board::Board;
-use crate::cells::{NodePair, PoolPair, SlotCell};
+use crate::cells::{NodePair, PoolPair};
+use crate::names::{CellName, Ending};
 use crate::pool::PoolCell;
 use virtual_node::NodeCell;
 
@@ -24,22 +26,6 @@ pub fn prepare_node<B: Board>(board: &mut B, node: u8, cell: NodeCell)
     board.node(node).next = Some(cell);
 }
 
-/// Puts a node's prepared value, if there is one, in place.
-pub fn settle_node<B: Board>(board: &mut B, node: u8)
-    requires { IsSome ((B.cells board.old).node node) }
-    ensures { (w : NodePair) → (B.cells board.old).node node ≡ Some w → B.cells board.new ≡ put_node (B.cells board.old) node (settled_node w) }
-{
-    board.node(node).settle();
-}
-
-/// Forgets a node's prepared value.
-pub fn forget_node<B: Board>(board: &mut B, node: u8)
-    requires { IsSome ((B.cells board.old).node node) }
-    ensures { (w : NodePair) → (B.cells board.old).node node ≡ Some w → B.cells board.new ≡ put_node (B.cells board.old) node (forgotten_node w) }
-{
-    board.node(node).forget();
-}
-
 /// A copy of the pool's value.
 pub fn held_pool<B: Board>(board: &mut B) -> PoolCell
     requires { IsSome (B.cells board.old).pool }
@@ -57,34 +43,26 @@ pub fn prepare_pool<B: Board>(board: &mut B, cell: PoolCell)
     board.pool().next = Some(cell);
 }
 
-/// Puts the pool's prepared value, if there is one, in place.
-pub fn settle_pool<B: Board>(board: &mut B)
-    requires { IsSome (B.cells board.old).pool }
-    ensures { (w : PoolPair) → (B.cells board.old).pool ≡ Some w → B.cells board.new ≡ put_pool (B.cells board.old) (settled_pool w) }
+/// Ends what is prepared in a cell.
+fn end<B: Board>(board: &mut B, name: CellName, ending: Ending)
+    requires { AreThere (B.cells board.old) (Some name ∷ []) }
+    ensures { B.cells board.new ≡ on_named (done_by ending) (Some name ∷ []) (B.cells board.old) }
 {
-    board.pool().settle();
+    match name {
+        CellName::Node(node) => board.node(node).end(ending),
+        CellName::Pool => board.pool().end(ending),
+        CellName::Slot(slot) => board.slot(slot).end(ending),
+    }
 }
 
-/// Forgets the pool's prepared value.
-pub fn forget_pool<B: Board>(board: &mut B)
-    requires { IsSome (B.cells board.old).pool }
-    ensures { (w : PoolPair) → (B.cells board.old).pool ≡ Some w → B.cells board.new ≡ put_pool (B.cells board.old) (forgotten_pool w) }
+/// Ends what is prepared in the cells that are named.
+pub fn end_all<B: Board>(board: &mut B, names: &[Option<CellName>], ending: Ending)
+    requires { AreThere (B.cells board.old) names.now }
+    ensures { B.cells board.new ≡ on_named (done_by ending) names.now (B.cells board.old) }
 {
-    board.pool().forget();
-}
-
-/// Puts a slot's prepared value, if there is one, in place. A draft is gone.
-pub fn settle_slot<B: Board>(board: &mut B, slot: u8)
-    requires { IsSome ((B.cells board.old).slot slot) }
-    ensures { (w : SlotCell) → (B.cells board.old).slot slot ≡ Some w → B.cells board.new ≡ put_slot (B.cells board.old) slot (settled_slot w) }
-{
-    board.slot(slot).settle();
-}
-
-/// Forgets a slot's draft and prepared value.
-pub fn forget_slot<B: Board>(board: &mut B, slot: u8)
-    requires { IsSome ((B.cells board.old).slot slot) }
-    ensures { (w : SlotCell) → (B.cells board.old).slot slot ≡ Some w → B.cells board.new ≡ put_slot (B.cells board.old) slot (forgotten_slot w) }
-{
-    board.slot(slot).forget();
+    for name in names {
+        if let Some(name) = *name {
+            end(board, name, ending);
+        }
+    }
 }

@@ -5,6 +5,7 @@ mod board;
 mod cells;
 mod lent;
 mod marks;
+mod names;
 mod owned;
 mod pool;
 mod slice;
@@ -14,10 +15,8 @@ mod tests;
 
 pub use board::Board;
 pub use cells::{NodePair, PoolPair, SlotCell};
-pub use lent::{
-    forget_node, forget_pool, forget_slot, held_node, held_pool, prepare_node, prepare_pool,
-    settle_node, settle_pool, settle_slot,
-};
+pub use lent::{end_all, held_node, held_pool, prepare_node, prepare_pool};
+pub use names::{CellName, Ending};
 pub use owned::OwnedCells;
 pub use pool::PoolCell;
 pub use step::{PairStep, SlotStep, on_slot, on_two};

@@ -145,7 +145,7 @@ fn place_of(slots: &[SlotCell], number: u8) -> u8
     ensures { (w : SlotCell) × (slice_get slots.now result ≡ Some w) × (is_listed w.register.value.qubits number ≡ true) }
 {
     for t in 0..slots.len() {
-        if slots[t].lists(number) {
+        if slots[t].has(number) {
             return t as u8;
         }
     }

@@ -2,8 +2,8 @@
 ghost use Rattle.std.specs.Prelude.{◌≡◌, length};
 
 use crate::{
-    Board, OwnedCells, PairStep, PoolCell, SlotCell, SlotStep, held_node, held_pool, on_slot,
-    on_two, prepare_node, settle_node,
+    Board, CellName, Ending, OwnedCells, PairStep, PoolCell, SlotCell, SlotStep, end_all,
+    held_node, held_pool, on_slot, on_two, prepare_node,
 };
 use qubit_handles::Handle;
 use std::mem;
@@ -90,7 +90,7 @@ fn a_prepared_node_counts_once_it_is_settled(rt: HostRuntime) {
     });
     prepare_node(&mut cells, 1, node);
     assert_eq!(rt; held_node(&mut cells, 1).held(), 0);
-    settle_node(&mut cells, 1);
+    end_all(&mut cells, &[Some(CellName::Node(1))], Ending::Settle);
     assert_eq!(rt; held_node(&mut cells, 1).held(), 1);
 }
 

@@ -114,13 +114,9 @@ instr_of number extra =
 abbrev pub has_option : ℕ → ℕ → Bool
 has_option k options = ((options / (2 ^ k)) % 2) == 1
 
--- the numbers of the instructions that are built: all known ones but ALLOCATE
-unfoldable pub is_built_instr : ℕ → Bool
-is_built_instr number = nat_le number 8 || nat_le 10 number && nat_le number 18 || number == 20 || number == 21 || number == 23
-
--- every other number is an unknown instruction
+-- a number without an extra header is an unknown instruction
 abbrev pub is_unknown : ℕ → Bool
-is_unknown number = not (is_built_instr number) || is_none (extra_size number)
+is_unknown number = is_none (extra_size number)
 
 -- the bytes of a command with its extra header
 abbrev pub command_size : ℕ → ℕ
@@ -200,19 +196,23 @@ COMMAND = 1
 abbrev pub FACTORY : ℕ
 FACTORY = 2
 
--- the types of messages that are built
-unfoldable pub is_built : ℕ → Bool
-is_built kind = kind == HELLO || kind == COMMAND
+-- whether a type is that of a message; all others are of replies, or unsupported
+abbrev pub is_message_kind : ℕ → Bool
+is_message_kind kind = kind == HELLO || kind == COMMAND || kind == FACTORY
 
 -- the most bytes of a body
 abbrev pub body_limit : ℕ
 body_limit = 65536
 
+-- the most commands of a body, each of which takes at least four bytes
+abbrev pub command_limit : ℕ
+command_limit = 16384
+
 -- the answer that the header alone fixes
 abbrev pub refusal_of : Header → Option Reply
 refusal_of h =
     if not (h.version == 2) then Some (reply.Error fault.Unsupported)
-    else (if not (is_built h.kind) then Some (reply.Error fault.Unsupported)
+    else (if not (is_message_kind h.kind) then Some (reply.Error fault.Unsupported)
     else (if nat_lt body_limit h.length then Some (reply.Error fault.General)
     else (if h.kind == HELLO then Some reply.Hello
     else None)))

@@ -9,7 +9,8 @@ use Rattle.cqc_model.specs.declared.Reply.{Reply}
 use Rattle.session_model.specs.declared.Ending.{Ending}
 use Rattle.session_model.specs.declared.Ending.TheVariants.{Clean, Cut, ReadFault, WriteFault, Full, Spent}
 use Rattle.cqc_model.specs.Wire.{header_of, spell}
-use Rattle.cqc_model.specs.Plan.{COMMAND, Plan, fixed, steps, body_size, begins_whole, refusal_of, plan_of, plan_with, body_plan}
+use Rattle.cqc_model.specs.Plan.{Plan, fixed, steps, body_size, begins_whole, refusal_of, plan_of, plan_with, body_plan}
+use Rattle.cqc_program.specs.Rounds.{kind_of}
 use Rattle.session_model.specs.Walk.{Connection, Work, between, working, Leads}
 use Rattle.session_model.specs.Speaks.{CutAt}
 use Rattle.cqc_model.proofs.Cuts.{IsMessage, message_of, header_front, body_part}
@@ -139,8 +140,9 @@ pub plan_refused : (h : Header) (head body : List ℕ) (r : Reply) → h ≡ hea
 plan_refused h head body r e is =
     ap (λ (o : Option Reply). plan_with o (message_of (header_of head) body)) (ap refusal_of (sym e) ∙ is)
 
-pub plan_opened : (h : Header) (head body : List ℕ) (p : Plan) → h ≡ header_of head → refusal_of h ≡ None → h.kind ≡ COMMAND → body_plan COMMAND body ≡ p
+pub plan_opened : (factory : Bool) (h : Header) (head body : List ℕ) (p : Plan) → h ≡ header_of head → refusal_of h ≡ None → h.kind ≡ kind_of factory
+    → body_plan (kind_of factory) body ≡ p
     → plan_of (message_of (header_of head) body) ≡ p
-plan_opened h head body p e none kind is =
+plan_opened factory h head body p e none kind is =
     ap (λ (o : Option Reply). plan_with o (message_of (header_of head) body)) (ap refusal_of (sym e) ∙ none)
     ∙ ap (λ (k : Header). body_plan k.kind body) (sym e) ∙ ap (λ n. body_plan n body) kind ∙ is

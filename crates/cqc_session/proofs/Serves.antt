@@ -17,42 +17,14 @@ use Rattle.cqc_model.specs.Plan.{Cutting, messages, rest, begins_whole}
 use Rattle.session_model.specs.Walk.{Connection, Said, Work, between, working, call_of, then_said, walk, walk_from, Leads}
 use Rattle.session_model.specs.Speaks.{Setting, Speaks, EndsAs, CutAt, ProperPrefix, Prefix, due_list, calls_of, replies_of, but_last}
 use Rattle.cqc_model.proofs.Cuts.{short_part, cut_part}
-use Rattle.session_model.proofs.Leading.{leads_nowhere, leads_on, said_so_far, left_so_far, leads_step, work_after}
+use Rattle.session_model.proofs.Leading.{leads_nowhere, said_so_far, left_so_far, work_after}
+use Rattle.session_model.proofs.Speaking.{but_last_push, calls_push, replies_push, leads_more, leads_asked, due_text, speaks_by, broken_speaks, asked_step}
 use Rattle.qron_link.specs.Outside.{WasRead, WasWritten}
 use Rattle.qron_link.proofs.Known.{read_none, written_none, written_on}
 use Rattle.cqc_session.specs.State.{State, Waits}
 use Rattle.cqc_session.specs.Session.{Spoke, Paused, Halted, PartAs, PartSaid, Resumes, GoesOn, AnswerEnds}
 use Rattle.cqc_session.specs.Serving.{Added, WasFull, Serving, Served}
 use Rattle.cqc_session.proofs.Fills.{took_on}
-
--- Lists of entries.
-but_last_push : (es : List Entry) (e : Entry) → but_last (es ++ e ∷ []) ≡ es
-but_last_push [] e = refl
-but_last_push (f ∷ []) e = refl
-but_last_push (f ∷ g ∷ es) e = ap (λ (x : List Entry). f ∷ x) (but_last_push (g ∷ es) e)
-
-calls_push : (es : List Entry) (e : Entry) → calls_of (es ++ e ∷ []) ≡ calls_of es ++ e.call ∷ []
-calls_push es e = map-append (λ (x : Entry). x.call) es (e ∷ [])
-
-replies_push : (es : List Entry) (e : Entry) → replies_of (es ++ e ∷ []) ≡ replies_of es ++ e.reply ∷ []
-replies_push es e = map-append (λ (x : Entry). x.reply) es (e ∷ [])
-
--- One run after another that asks nothing, and one that asks one call.
-leads_more : (p : Connection) (u v w : Work) (a b : List ℕ) (c : List Call) (r : List CoreReply) (x y : List ℕ)
-    → Leads p u a c r x v → Leads p v b [] [] y w → Leads p u (a ++ b) c r (x ++ y) w
-leads_more p u v w a b c r x y f g =
-    subst (λ (k : List Call). Leads p u (a ++ b) k r (x ++ y) w) (append-nil c)
-    (subst (λ (k : List CoreReply). Leads p u (a ++ b) (c ++ []) k (x ++ y) w) (append-nil r) (leads_on p u v w a b c [] r [] x y f g))
-
-leads_asked : (p : Connection) (u v w : Work) (a : List ℕ) (c d : List Call) (r s : List CoreReply) (x y : List ℕ)
-    → Leads p u a c r x v → Leads p v [] d s y w → Leads p u a (c ++ d) (r ++ s) (x ++ y) w
-leads_asked p u v w a c d r s x y f g =
-    subst (λ (k : List ℕ). Leads p u k (c ++ d) (r ++ s) (x ++ y) w) (append-nil a) (leads_on p u v w a [] c d r s x y f g)
-
--- what was said in all, up to a work
-said_at : (p : Connection) (w : Work) (b : List ℕ) (c : List Call) (r : List CoreReply) (out later : List ℕ)
-    → Leads p between b c r out w → walk p (messages (b ++ later)) r ≡ then_said c out (walk_from p w (messages later) [])
-said_at p w b c r out later f = ap (walk p (messages (b ++ later))) (sym (append-nil r)) ∙ f.says later []
 
 -- nothing has come yet
 pub begins : (connection : Connection) (cap now : ℕ) (left held : Option (List ℕ)) (old : List Entry) (w : Work) → w ≡ between → now ≡ cap
@@ -89,13 +61,6 @@ polled connection cap left mid rest held said wrote before now old new v w s t =
       ∙ s.last h (t.taken ++ later);
 }
 
--- the text up to a call that is due
-due_text : (connection : Connection) (call : Call) (others : List Command) (notify : Bool) (w : Work) (b : List ℕ) (c : List Call) (r : List CoreReply) (out later : List ℕ)
-    → Leads connection between b c r out w → w ≡ working call.app (call.command ∷ others) notify
-    → walk connection (messages (b ++ later)) r ≡ record { asked = c ++ call_of connection call.app call.command ∷ []; text = out ++ []; due = Some (call_of connection call.app call.command) }
-due_text connection call others notify w b c r out later f e =
-    said_at connection w b c r out later f ∙ ap (λ (x : Work). then_said c out (walk_from connection x (messages later) [])) e
-
 -- a reply
 pub replied : (connection : Connection) (cap : ℕ) (left rest held said wrote : Option (List ℕ)) (now : ℕ) (old mid new : List Entry) (v w : Work) (call : Call) (r : CoreReply)
     (others : List Command) (notify : Bool)
@@ -122,15 +87,7 @@ replied connection cap left rest held said wrote now old mid new v w call r othe
           ∙ append-nil s.given;
     }
 
--- an ending, from what was said
-speaks_by : (s : Setting) (b out : List ℕ) (es : List Entry) (said : Said) (ending : Ending) → walk s.connection (messages b) (replies_of es) ≡ said
-    → said.asked ≡ calls_of es ++ due_list said.due → EndsAs s b es said out ending → Speaks s b es out ending
-speaks_by s b out es said ending is asked ends = record {
-  asked = subst (λ (w : Said). w.asked ≡ calls_of es ++ due_list w.due) (sym is) asked;
-  ends = subst (λ (w : Said). EndsAs s b es w out ending) (sym is) ends;
-}
-
-paused_speaks : (connection : Connection) (cap : ℕ) (rest_left : Option (List ℕ)) (es : List Entry) (seen capacity : ℕ) (b part out : List ℕ) (now : ℕ) (ending : Ending)
+pub paused_speaks : (connection : Connection) (cap : ℕ) (rest_left : Option (List ℕ)) (es : List Entry) (seen capacity : ℕ) (b part out : List ℕ) (now : ℕ) (ending : Ending)
     → Leads connection between b (calls_of es) (replies_of es) out between → begins_whole part ≡ false → now + length (b ++ part) ≡ cap
     → PartAs cap rest_left now part ending
     → Speaks (record { connection = connection; cap = cap; left = rest_left; entries = seen; capacity = capacity }) (b ++ part) es out ending
@@ -157,33 +114,6 @@ paused_speaks connection cap rest_left es seen capacity b part out now ending f 
     by_ending WriteFault never = absurd never
     by_ending (Full entries) never = absurd never
 
--- what was said up to any work, and nothing after it
-asked_by : (connection : Connection) (w : Work) (c : List Call) → (walk_from connection w [] []).asked ≡ due_list (walk_from connection w [] []).due
-asked_by connection between c = refl
-asked_by connection (working app [] notify) c = refl
-asked_by connection (working app (x ∷ xs) notify) c = refl
-
--- a reply that could not be written whole
-broken_speaks : (connection : Connection) (cap : ℕ) (rest_left : Option (List ℕ)) (es : List Entry) (seen capacity : ℕ) (b whole out : List ℕ) (w : Work) (before : List ℕ)
-    → Leads connection between b (calls_of es) (replies_of es) whole w → ProperPrefix out whole
-    → Prefix before out → (0 < length es → (walk connection (messages b) (replies_of (but_last es))).text ≡ before)
-    → Speaks (record { connection = connection; cap = cap; left = rest_left; entries = seen; capacity = capacity }) b es out WriteFault
-broken_speaks connection cap rest_left es seen capacity b whole out w before f short earlier last =
-    let after = walk_from connection w [] [] in
-    let said : walk connection (messages b) (replies_of es) ≡ then_said (calls_of es) whole after =
-    ap (λ (x : List ℕ). walk connection (messages x) (replies_of es)) (sym (append-nil b))
-    ∙ said_at connection w b (calls_of es) (replies_of es) whole [] f
-    ∙ ap (λ (k : Cutting). then_said (calls_of es) whole (walk_from connection w k.messages [])) (cut_part [] (short_part [] (omega arith))) in
-    speaks_by _ b out es _ WriteFault said
-    (ap (λ (x : List Call). calls_of es ++ x) (asked_by connection w (calls_of es))) (
-      inl (
-        short.0 ++ after.text,
-        omega (arith, length-append short.0 after.text, short.1),
-        sym (append_assoc out short.0 after.text) ∙ ap (λ x. x ++ after.text) short.2,
-      ),
-      λ h. subst (λ (x : List ℕ). Prefix x out) (sym (last h)) earlier,
-    )
-
 paused_ends : (connection : Connection) (cap : ℕ) (left mid rest_left held said wrote : Option (List ℕ)) (before now : ℕ) (old new : List Entry) (seen capacity : ℕ) (v : Work) (ending : Ending)
     → Serving connection cap left mid held said before old new v → Paused connection cap v mid rest_left said wrote before now ending
     → Served connection cap left rest_left held wrote old new seen capacity ending
@@ -195,6 +125,7 @@ paused_ends connection cap left mid rest_left held said wrote before now old new
       written = s.given ++ t.given;
       entries = s.entries;
       took = subst (λ (x : List ℕ). WasRead left x rest_left) one took.read;
+      few = omega (arith, ap (λ (x : List ℕ). now + length x) (sym one) ∙ took.paid);
       gave = written_on _ _ _ _ _ s.gave t.gave;
       added = s.added;
       speaks = paused_speaks connection cap rest_left s.entries seen capacity (s.taken ++ t.taken) t.part (s.given ++ t.given) now ending
@@ -216,13 +147,14 @@ halts connection cap left mid rest_left held said wrote before now old new seen 
       written = s.given ++ t.given;
       entries = s.entries;
       took = (took_on _ _ _ _ _ _ _ _ s.took t.took).read;
+      few = omega (arith, (took_on _ _ _ _ _ _ _ _ s.took t.took).paid);
       gave = written_on _ _ _ _ _ s.gave t.gave;
       added = s.added;
-      speaks = broken_speaks connection cap rest_left s.entries seen capacity (s.taken ++ t.taken) (s.given ++ t.whole) (s.given ++ t.given) between s.before
+      speaks = broken_speaks connection cap rest_left s.entries seen capacity (s.taken ++ t.taken) (s.given ++ t.whole) (s.given ++ t.given) between
           (leads_more connection between v between _ _ _ _ _ _ s.leads t.leads)
           (t.short.0, t.short.1, append_assoc s.given t.given t.short.0 ∙ ap (λ x. s.given ++ x) t.short.2)
-          (s.earlier.0 ++ t.given, sym (append_assoc s.before s.earlier.0 t.given) ∙ ap (λ x. x ++ t.given) s.earlier.1)
-          (λ h. s.last h t.taken);
+          (λ h. subst (λ (x : List ℕ). Prefix x (s.given ++ t.given)) (sym (s.last h t.taken))
+          (s.earlier.0 ++ t.given, sym (append_assoc s.before s.earlier.0 t.given) ∙ ap (λ x. x ++ t.given) s.earlier.1));
     }
 
 -- A call that was answered by the end of the session.
@@ -232,14 +164,6 @@ pub record Asking (connection : Connection) (cap : ℕ) (left rest_left held sai
   pub notify : Bool
   pub work : v ≡ working call.app (call.command ∷ others) notify
   pub call_is : call ≡ call_of connection call.app call.command
-
-asked_step : (connection : Connection) (v : Work) (call : Call) (others : List Command) (notify : Bool) (r : CoreReply)
-    → v ≡ working call.app (call.command ∷ others) notify → call ≡ call_of connection call.app call.command
-    → Leads connection v [] (call ∷ []) (r ∷ []) (spell_core call.app r) (work_after call.app others notify r)
-asked_step connection v call others notify r is call_is =
-    subst (λ (x : Work). Leads connection x [] (call ∷ []) (r ∷ []) (spell_core call.app r) (work_after call.app others notify r)) (sym is)
-    (subst (λ (k : Call). Leads connection (working call.app (call.command ∷ others) notify) [] (k ∷ []) (r ∷ []) (spell_core call.app r) (work_after call.app others notify r)) (sym call_is)
-    (leads_step connection call.app call.command others notify r))
 
 -- its reply was not written whole
 pub reply_broke : (connection : Connection) (cap : ℕ) (left rest_left held said wrote : Option (List ℕ)) (now : ℕ) (old mid new : List Entry) (seen capacity : ℕ) (v : Work) (call : Call) (r : CoreReply)
@@ -254,19 +178,19 @@ reply_broke connection cap left rest_left held said wrote now old mid new seen c
       written = s.given ++ t.given;
       entries = s.entries ++ e ∷ [];
       took = s.took.read;
+      few = omega (arith, s.took.paid);
       gave = written_on _ _ _ _ _ s.gave t.gave;
       added = add.is ∙ ap (λ (x : List Entry). x ++ e ∷ []) s.added ∙ append_assoc old s.entries (e ∷ []);
       speaks = broken_speaks connection cap rest_left (s.entries ++ e ∷ []) seen capacity s.taken (s.given ++ spell_core call.app r) (s.given ++ t.given)
-          (work_after call.app a.others a.notify r) s.given
+          (work_after call.app a.others a.notify r)
           (subst (λ (k : List Call). Leads connection between s.taken k (replies_of (s.entries ++ e ∷ [])) (s.given ++ spell_core call.app r) (work_after call.app a.others a.notify r)) (sym (calls_push s.entries e))
           (subst (λ (k : List CoreReply). Leads connection between s.taken (calls_of s.entries ++ call ∷ []) k (s.given ++ spell_core call.app r) (work_after call.app a.others a.notify r)) (sym (replies_push s.entries e))
           leads))
           (t.short.0, t.short.1, append_assoc s.given t.given t.short.0 ∙ ap (λ x. s.given ++ x) t.short.2)
-          (t.given, refl)
-          (λ h. ap (λ (b : List ℕ). (walk connection (messages b) (replies_of (but_last (s.entries ++ e ∷ [])))).text) (sym (append-nil s.taken))
+          (λ h. subst (λ (x : List ℕ). Prefix x (s.given ++ t.given)) (sym (ap (λ (b : List ℕ). (walk connection (messages b) (replies_of (but_last (s.entries ++ e ∷ [])))).text) (sym (append-nil s.taken))
           ∙ ap (λ (es : List Entry). (walk connection (messages (s.taken ++ [])) (replies_of es)).text) (but_last_push s.entries e)
           ∙ ap (λ (x : Said). x.text) (due_text connection call a.others a.notify v s.taken (calls_of s.entries) (replies_of s.entries) s.given [] s.leads a.work)
-          ∙ append-nil s.given);
+          ∙ append-nil s.given)) (t.given, refl));
     }
 
 -- the journal was full
@@ -288,6 +212,7 @@ module _ (connection : Connection) (cap : ℕ) (left rest_left held said wrote :
     written = a.serving.given ++ spell call.app (reply.Error fault.General);
     entries = a.serving.entries;
     took = a.serving.took.read;
+    few = omega (arith, a.serving.took.paid);
     gave = written_on _ _ _ _ _ a.serving.gave gave;
     added = w.stays ∙ a.serving.added;
     speaks = speaks_by _ a.serving.taken _ a.serving.entries _ (Full count) due_said refl
@@ -300,6 +225,7 @@ module _ (connection : Connection) (cap : ℕ) (left rest_left held said wrote :
     written = a.serving.given ++ t.given;
     entries = a.serving.entries;
     took = a.serving.took.read;
+    few = omega (arith, a.serving.took.paid);
     gave = written_on _ _ _ _ _ a.serving.gave t.gave;
     added = w.stays ∙ a.serving.added;
     speaks = speaks_by _ a.serving.taken _ a.serving.entries _ WriteFault due_said refl (

@@ -1,9 +1,8 @@
 -- What contracts see of a message's body and of its commands that are still to be asked.
-use Rattle.std.specs.Prelude.{ℕ, List, [], drop, Bool, Result, Ok, Err}
-use Rattle.std.specs.List.{list_any}
+use Rattle.std.specs.Prelude.{ℕ, List, [], Bool, false, Option, None, Some}
 use Rattle.cqc_model.specs.declared.Command.{Command}
-use Rattle.cqc_model.specs.declared.BodyFault.{BodyFault}
-use Rattle.cqc_model.specs.Plan.{commands}
+use Rattle.cqc_program.specs.declared.walk.Walk.{Walk}
+use Rattle.cqc_program.specs.Walks.{IsOver, left_of, notify_of}
 
 -- the body's bytes, the commands that are still to be asked, and whether DONE follows them
 pub record Program : Type 0 where
@@ -11,15 +10,17 @@ pub record Program : Type 0 where
   pub left : List Command
   pub notify : Bool
 
--- the commands of a list without a fault
-abbrev pub listed : Result (List Command) BodyFault → List Command
-listed (Ok cs) = cs
-listed (Err f) = []
+-- what a walk still asks of a body; nothing where the body wasn't opened
+abbrev pub left_over : List ℕ → Option Walk → List Command
+left_over body None = []
+left_over body (Some walk) = left_of body walk
 
--- the commands from a place of a body on
-unfoldable pub left_at : List ℕ → ℕ → List Command
-left_at body at = listed (commands (drop at body))
+-- whether DONE follows
+abbrev pub notify_over : List ℕ → Option Walk → Bool
+notify_over body None = false
+notify_over body (Some walk) = notify_of body walk
 
--- whether one of the commands asks for DONE
-abbrev pub notifies : List Command → Bool
-notifies list = list_any (λ c. c.notify) list
+-- a walk is over this body
+abbrev pub WalksOver : List ℕ → Option Walk → Type 0
+WalksOver body None = Unit {0}
+WalksOver body (Some walk) = IsOver body walk

@@ -1,5 +1,5 @@
 -- A whole session over a core.
-use Rattle.std.specs.Prelude.{◌≡◌, ℕ, ◌<◌, List, [], ◌∷◌, ◌++◌, length, Option}
+use Rattle.std.specs.Prelude.{◌≡◌, ℕ, ◌<◌, ◌≤◌, List, [], ◌∷◌, ◌++◌, length, Option}
 use Rattle.session_model.specs.declared.Ending.{Ending}
 use Rattle.network_model.specs.declared.Call.{Call}
 use Rattle.network_model.specs.declared.Entry.{Entry}
@@ -7,6 +7,8 @@ use Rattle.network_model.specs.declared.CoreReply.{CoreReply}
 use Rattle.network_model.specs.declared.JournalFull.{JournalFull}
 use Rattle.cqc_model.specs.Plan.{messages}
 use Rattle.session_model.specs.Walk.{Connection, Work, between, Leads, walk}
+use Rattle.session_model.specs.Turns.{words_taken}
+use Rattle.session_model.specs.Worded.{AreWorded}
 use Rattle.session_model.specs.Speaks.{Speaks, Prefix, calls_of, replies_of, but_last}
 use Rattle.qron_link.specs.Outside.{WasRead, WasWritten}
 use Rattle.cqc_session.specs.Reading.{Took}
@@ -35,12 +37,20 @@ pub record Serving (connection : Connection) (cap : ℕ) (left rest held wrote :
   pub earlier : Prefix before given
   pub last : 0 < length entries → (later : List ℕ) → (walk connection (messages (taken ++ later)) (replies_of (but_last entries))).text ≡ before
 
--- what was read, written and added, and how it ended
+-- entries were added that have the next words of a connection, from its first, and so many words were taken
+pub record WordedAfter (words : ℕ → ℕ) (old new : List Entry) (taken : ℕ) : Type 0 where
+  pub entries : List Entry
+  pub added : new ≡ old ++ entries
+  pub worded : AreWorded words entries
+  pub count : taken ≡ words_taken entries
+
+-- what was read, at most as many bytes as may be, what was written and added, and how it ended
 pub record Served (connection : Connection) (cap : ℕ) (left rest held wrote : Option (List ℕ)) (old new : List Entry) (seen capacity : ℕ) (ending : Ending) : Type 0 where
   pub read : List ℕ
   pub written : List ℕ
   pub entries : List Entry
   pub took : WasRead left read rest
+  pub few : length read ≤ cap
   pub gave : WasWritten held written wrote
   pub added : new ≡ old ++ entries
   pub speaks : Speaks (record { connection = connection; cap = cap; left = rest; entries = seen; capacity = capacity }) read entries written ending

@@ -1,5 +1,5 @@
 -- What a call of a session did to its link.
-use Rattle.std.specs.Prelude.{◌≡◌, ◌≢◌, ℕ, ◌<◌, ◌≤◌, List, [], ◌∷◌, ◌++◌, length, Option, Bool, true, false, Result, Ok, Err}
+use Rattle.std.specs.Prelude.{◌≡◌, ◌≢◌, ℕ, ◌<◌, ◌≤◌, List, [], ◌∷◌, ◌++◌, length, Option, None, Some, Bool, true, false, Result, Ok, Err}
 use Rattle.session_model.specs.declared.Ending.{Ending}
 use Rattle.session_model.specs.declared.Ending.TheVariants.{Clean, Cut, ReadFault, WriteFault, Full, Spent}
 use Rattle.network_model.specs.declared.Call.{Call}
@@ -11,7 +11,12 @@ use Rattle.cqc_model.specs.declared.Fault.TheVariants as fault
 use Rattle.cqc_model.specs.declared.Reply.TheVariants as reply
 use Rattle.cqc_model.specs.Wire.{spell}
 use Rattle.session_model.specs.Walk.{spell_core}
-use Rattle.cqc_model.specs.Plan.{begins_whole}
+use Rattle.cqc_model.specs.declared.Header.{Header}
+use Rattle.cqc_model.specs.Plan.{begins_whole, refusal_of, body_limit}
+use Rattle.cqc_program.specs.Rounds.{kind_of}
+use Rattle.cqc_program.specs.Walks.{walk_limit}
+use Rattle.cqc_session.specs.declared.message.Asked.{Asked}
+use Rattle.cqc_session.specs.declared.message.Asked.TheVariants as asked
 use Rattle.session_model.specs.Walk.{Connection, Work, between, working, Leads}
 use Rattle.session_model.specs.Speaks.{CutAt, ProperPrefix}
 use Rattle.qron_link.specs.Outside.{Rose, WasWritten, AtEnd}
@@ -137,12 +142,17 @@ abbrev pub PartCause : Ending → ℕ → ℕ → Type 0
 PartCause ReadFault reads now_reads = (reads ≤ now_reads) × Rose reads now_reads
 PartCause _ reads now_reads = reads ≤ now_reads
 
+-- what a header says of its message
+abbrev pub AskedAs : Header → Asked → Type 0
+AskedAs h (asked.Fixed r) = refusal_of h ≡ Some r
+AskedAs h (asked.List factory) = (refusal_of h ≡ None) × (h.kind ≡ kind_of factory) × (h.length ≤ body_limit)
+
 -- what taking one message did
 abbrev pub TakenAs : Connection → ℕ → Option (List ℕ) → Option (List ℕ) → Option (List ℕ) → Option (List ℕ) → ℕ → ℕ → List Command → Bool → Taken → Type 0
 TakenAs connection cap left rest held wrote before now list notify Answered =
     Spoke connection between left rest held wrote before now between × (now < before)
 TakenAs connection cap left rest held wrote before now list notify (Opened app) =
-    Spoke connection between left rest held wrote before now (working app list notify) × (now < before) × (length list ≤ 65536)
+    Spoke connection between left rest held wrote before now (working app list notify) × (now < before) × (length list < walk_limit)
 TakenAs connection cap left rest held wrote before now list notify (Stopped ending) = Halted connection cap between left rest held wrote before now ending
 
 abbrev pub TakenCause : Taken → ℕ → ℕ → ℕ → ℕ → Type 0

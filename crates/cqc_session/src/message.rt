@@ -1,38 +1,45 @@
 // One message, read whole and answered or opened.
-ghost use Rattle.std.specs.Prelude.{◌≡◌, ℕ, ◌<◌, ◌≤◌, [], length, take, MatchOption, IfNone, IsTrue};
+ghost use Rattle.std.specs.Prelude.{◌≡◌, ℕ, ◌<◌, ◌≤◌};
 ghost use Rattle.cqc_model.specs.Wire.{spell};
-ghost use Rattle.cqc_model.specs.Plan.{COMMAND, refusal_of};
+ghost use Rattle.cqc_session.specs.Session.{AskedAs};
 ghost use Rattle.cqc_session.specs.Reading.{Sent, SentCause};
 
-use crate::cursor::BODY_LIMIT;
 use crate::reading::send;
-use cqc_model::{Fault, Header, Reply};
-use cqc_wire::write_reply;
+use cqc_model::{BODY_LIMIT, Fault, Header, Reply};
+use cqc_wire::{kind, write_reply};
 use qron_link::Link;
 
-// The version and the message types that are built.
+// The version of all messages.
 const VERSION: u8 = 2;
 
-const HELLO_TYPE: u8 = 0;
+/// What a header says of its message.
+#[derive(Drop)]
+pub enum Asked {
+    /// The body is passed over, and this is the answer.
+    Fixed(Reply),
+    /// The body is a command list, or a FACTORY's.
+    List { factory: bool },
+}
 
-const COMMAND_TYPE: u8 = 1;
-
-/// The reply that a header fixes.
-#[tactic(auto, unfolding(cqc_model::specs::Plan::is_built))]
-pub fn refusal(header: &Header) -> Option<Reply>
-    ensures reply { refusal_of header.now ≡ result }
-    ensures command { IfNone result ((header.now.kind ≡ COMMAND) × (header.now.length ≤ 65536)) }
+/// What a header says of its message: the order of the tests is the order of the refusals.
+pub fn asked_by(header: &Header) -> Asked
+    ensures { AskedAs header.now result }
 {
-    if header.version != VERSION || (header.kind != HELLO_TYPE && header.kind != COMMAND_TYPE) {
-        return Some(Reply::Error(Fault::Unsupported));
+    if header.version != VERSION {
+        return Asked::Fixed(Reply::Error(Fault::Unsupported));
     }
+    let factory = match header.kind {
+        kind::HELLO | kind::COMMAND => false,
+        kind::FACTORY => true,
+        _ => return Asked::Fixed(Reply::Error(Fault::Unsupported)),
+    };
     if header.length > BODY_LIMIT {
-        return Some(Reply::Error(Fault::General));
+        return Asked::Fixed(Reply::Error(Fault::General));
     }
-    if header.kind == HELLO_TYPE {
-        return Some(Reply::Hello);
+    if header.kind == kind::HELLO {
+        return Asked::Fixed(Reply::Hello);
     }
-    None
+    Asked::List { factory }
 }
 
 /// Writes a reply, and says whether all of it was written.
@@ -41,6 +48,7 @@ pub fn say<L: Link>(link: &mut L, app: u16, reply: &Reply) -> bool
     ensures cause { SentCause result (L.write_faults link.old) (L.write_faults link.new) }
     ensures left { L.left link.new ≡ L.left link.old }
     ensures read_faults { L.read_faults link.new ≡ L.read_faults link.old }
+    ensures led { L.was_led link.old link.new }
 {
     let mut out = [0u8; 50];
     let size = write_reply(&mut out, app, reply);

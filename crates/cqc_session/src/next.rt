@@ -3,8 +3,8 @@ ghost use Rattle.std.specs.Prelude.{◌≡◌, ℕ};
 ghost use Rattle.session_model.specs.Walk.{Connection};
 ghost use Rattle.cqc_session.specs.Session.{NextAs, NextCause};
 
-use crate::cursor::Cursor;
 use crate::message::say;
+use crate::program::Program;
 use cqc_model::{Command, Reply};
 use qron_link::Link;
 
@@ -17,19 +17,20 @@ pub enum Next {
 }
 
 /// Looks for the next command. Where none is left, DONE is written where it is due.
-pub fn next_command<L: Link>(link: &mut L, cursor: &Cursor, app: u16, busy: bool) -> Next
-    ensures next { (connection : Connection) → NextAs connection busy app cursor.now.left cursor.now.notify
+pub fn next_command<L: Link>(link: &mut L, program: &Program, app: u16, busy: bool) -> Next
+    ensures next { (connection : Connection) → NextAs connection busy app program.now.left program.now.notify
         (L.left link.old) (L.left link.new) (L.held link.old) (L.held link.new) result }
     ensures cause { NextCause result (L.write_faults link.old) (L.write_faults link.new) }
     ensures read_faults { L.read_faults link.new ≡ L.read_faults link.old }
+    ensures led { L.was_led link.old link.new }
 {
     if !busy {
         return Next::Ready;
     }
-    if let Some(command) = cursor.next() {
+    if let Some(command) = program.next() {
         return Next::Ask(command);
     }
-    if cursor.done_due() {
+    if program.done_due() {
         if say(link, app, &Reply::Done) {
             return Next::Ready;
         }

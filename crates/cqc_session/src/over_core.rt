@@ -3,6 +3,7 @@ ghost use Rattle.std.specs.Prelude.{◌≡◌, ◌≢◌, ℕ, List, MatchResult
 ghost use Rattle.cqc_model.specs.declared.Instr.TheVariants.{Allocate};
 ghost use Rattle.session_model.specs.Walk.{between, call_of};
 ghost use Rattle.cqc_session.specs.Session.{EndCause};
+ghost use Rattle.cqc_session.specs.declared.stage.Stage.TheVariants.{Closed, Ready};
 ghost use Rattle.cqc_session.specs.Serving.{Added, WasFull, Served};
 
 use crate::session::Session;
@@ -48,12 +49,17 @@ pub trait Core {
 /// Serves a connection to its end.
 pub fn serve<L: Link, K: Core>(core: &mut K, session: &mut Session, link: &mut L) -> Ending
     requires ours { session.old.connection ≡ K.connection core.old }
+    requires ready { session.old.stage ≡ Ready }
     requires fresh { session.old.work ≡ between }
     requires unread { session.old.budget ≡ session.old.cap }
     ensures served { Served session.old.connection session.old.cap (L.left link.old) (L.left link.new) (L.held link.old) (L.held link.new)
         (K.own core.old) (K.own core.new) (K.seen core.new) (K.capacity core.old) result }
     ensures cause { EndCause result (L.read_faults link.old) (L.read_faults link.new) (L.write_faults link.old) (L.write_faults link.new) }
     ensures led { K.was_led core.old core.new }
+    ensures link { L.was_led link.old link.new }
+    ensures closed { session.new.stage ≡ Closed }
+    ensures connection { session.new.connection ≡ session.old.connection }
+    ensures cap { session.new.cap ≡ session.old.cap }
 {
     loop {
         let call = match session.poll(link) {

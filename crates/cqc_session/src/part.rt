@@ -20,6 +20,7 @@ pub fn read_head<L: Link>(
         (λ ending. PartCause ending (L.read_faults link.old) (L.read_faults link.new)) }
     ensures held { L.held link.new ≡ L.held link.old }
     ensures write_faults { L.write_faults link.new ≡ L.write_faults link.old }
+    ensures led { L.was_led link.old link.new }
 {
     match fill(link, head, budget) {
         Filled::Whole => None,
@@ -41,6 +42,7 @@ pub fn pass_body<L: Link>(link: &mut L, size: u32, budget: &mut u64, cap: u64) -
         (λ ending. PartCause ending (L.read_faults link.old) (L.read_faults link.new)) }
     ensures held { L.held link.new ≡ L.held link.old }
     ensures write_faults { L.write_faults link.new ≡ L.write_faults link.old }
+    ensures led { L.was_led link.old link.new }
 {
     match skip(link, size, budget) {
         Filled::Whole => None,
@@ -68,6 +70,7 @@ pub fn keep_body<L: Link>(
         (λ ending. PartCause ending (L.read_faults link.old) (L.read_faults link.new)) }
     ensures held { L.held link.new ≡ L.held link.old }
     ensures write_faults { L.write_faults link.new ≡ L.write_faults link.old }
+    ensures led { L.was_led link.old link.new }
 {
     match fill(link, &mut room[..size as usize], budget) {
         Filled::Whole => None,

@@ -38,6 +38,7 @@ pub fn say_core<L: Link>(link: &mut L, app: u16, reply: &CoreReply) -> bool
     ensures cause { SentCause result (L.write_faults link.old) (L.write_faults link.new) }
     ensures left { L.left link.new ≡ L.left link.old }
     ensures read_faults { L.read_faults link.new ≡ L.read_faults link.old }
+    ensures led { L.was_led link.old link.new }
 {
     match wire_reply(reply) {
         None => true,

@@ -1,11 +1,12 @@
 // One connection.
 ghost use Rattle.std.specs.Prelude.{◌≡◌, ℕ, ◌≤◌, ◌<◌, ◌^◌, MatchOption, IfNone, IfOk};
-ghost use Rattle.cqc_session.specs.State.{State, work_of, begun};
+ghost use Rattle.cqc_session.specs.State.{State, work_of, begun, not_begun};
 
-use crate::cursor::Cursor;
 use crate::message::say;
 use crate::next::{Next, next_command};
+use crate::program::Program;
 use crate::reply::{refused, say_core};
+use crate::stage::Stage;
 use crate::take::{Taken, take_message};
 use crate::turn::Turn;
 use cqc_model::{Fault, Reply};
@@ -25,7 +26,8 @@ pub struct Session {
     budget: u64,
     app: u16,
     busy: bool,
-    cursor: Cursor,
+    program: Program,
+    stage: Stage,
 }
 
 impl Model for Session {
@@ -35,21 +37,24 @@ impl Model for Session {
       connection = record { seat = s.seat; serial = s.serial; node = s.node };
       cap = s.cap;
       budget = s.budget;
-      work = work_of s.busy s.app s.cursor.left s.cursor.notify;
+      work = work_of s.busy s.app s.program.left s.program.notify;
+      stage = s.stage;
     } };
 }
 
 impl Session {
-    ghost use Rattle.cqc_session.specs.State.{Waits, steps_left};
+    ghost use Rattle.cqc_session.specs.declared.stage.Stage.TheVariants.{Ready};
+    ghost use Rattle.cqc_session.specs.State.{Waits, steps_left, stage_after, stage_after_answer};
     ghost use Rattle.cqc_session.specs.Session.{PollDid, TurnCause, StepsKept, GoesOn, AnswerEnds, AnswerCause};
 
     /// A session of a seat at a node, which reads at most so many bytes of a connection. All its room is taken here.
+    /// It answers nothing until it begins a connection.
     pub fn new(alloc: Global, seat: u16, node: u8, cap: u64) -> Result<Session, AllocError>
         requires some { 1 ≤ cap }
         requires most { cap ≤ 2 ^ 32 }
-        ensures { IfOk result (λ s. s ≡ begun (record { seat = seat; serial = 0; node = node }) cap) }
+        ensures { IfOk result (λ s. s ≡ not_begun (record { seat = seat; serial = 0; node = node }) cap) }
     {
-        let cursor = Cursor::new(alloc)?;
+        let program = Program::new(alloc)?;
         Ok(Session {
             seat,
             serial: 0,
@@ -58,8 +63,23 @@ impl Session {
             budget: cap,
             app: 0,
             busy: false,
-            cursor,
+            program,
+            stage: Stage::Closed,
         })
+    }
+
+    /// The seat of its connections.
+    pub fn seat(&self) -> u16
+        ensures { result ≡ self.now.connection.seat }
+    {
+        self.seat
+    }
+
+    /// The serial of the connection that was begun last.
+    pub fn serial(&self) -> u16
+        ensures { result ≡ self.now.connection.serial }
+    {
+        self.serial
     }
 
     /// A new connection. Nothing of the old one is left.
@@ -69,19 +89,24 @@ impl Session {
         self.serial = serial;
         self.budget = self.cap;
         self.busy = false;
+        self.stage = Stage::Ready;
     }
 
     /// Reads and answers until a command is to be executed or the session ends.
     pub fn poll<L: Link>(&mut self, link: &mut L) -> Turn
+        requires { self.old.stage ≡ Ready }
+        ensures stage { self.new.stage ≡ stage_after result }
         ensures turn { PollDid self.old self.new (L.left link.old) (L.left link.new) (L.held link.old) (L.held link.new) result }
         ensures connection { self.new.connection ≡ self.old.connection }
         ensures cap { self.new.cap ≡ self.old.cap }
         ensures steps { StepsKept result (steps_left self.old) (steps_left self.new) }
         ensures cause { TurnCause result (L.read_faults link.old) (L.read_faults link.new) (L.write_faults link.old) (L.write_faults link.new) }
+        ensures led { L.was_led link.old link.new }
     {
         loop {
-            match next_command(link, &self.cursor, self.app, self.busy) {
+            match next_command(link, &self.program, self.app, self.busy) {
                 Next::Ask(command) => {
+                    self.stage = Stage::Waiting;
                     return Turn::Execute(Call {
                         seat: self.seat,
                         serial: self.serial,
@@ -90,17 +115,23 @@ impl Session {
                         command,
                     });
                 }
-                Next::Refused => return Turn::End(Ending::WriteFault),
+                Next::Refused => {
+                    self.stage = Stage::Closed;
+                    return Turn::End(Ending::WriteFault);
+                }
                 Next::Ready => {}
             }
             self.busy = false;
-            match take_message(link, &mut self.cursor, &mut self.budget, self.cap) {
+            match take_message(link, &mut self.program, &mut self.budget, self.cap) {
                 Taken::Answered => {}
                 Taken::Opened { app } => {
                     self.app = app;
                     self.busy = true;
                 }
-                Taken::Stopped(ending) => return Turn::End(ending),
+                Taken::Stopped(ending) => {
+                    self.stage = Stage::Closed;
+                    return Turn::End(ending);
+                }
             }
         }
     }
@@ -116,6 +147,7 @@ impl Session {
         ensures answered { (call : Call) → Waits call self.old → MatchOption result
             (GoesOn self.old.connection self.old.work call (L.held link.old) (L.held link.new) done self.new.work)
             (λ ending. AnswerEnds ending call.app done (L.held link.old) (L.held link.new)) }
+        ensures stage { self.new.stage ≡ stage_after_answer result }
         ensures connection { self.new.connection ≡ self.old.connection }
         ensures cap { self.new.cap ≡ self.old.cap }
         ensures budget { self.new.budget ≡ self.old.budget }
@@ -124,13 +156,16 @@ impl Session {
         ensures read_faults { L.read_faults link.new ≡ L.read_faults link.old }
         ensures cause { MatchOption result (L.write_faults link.old ≤ L.write_faults link.new)
             (λ ending. AnswerCause ending (L.write_faults link.old) (L.write_faults link.new)) }
+        ensures led { L.was_led link.old link.new }
     {
+        self.stage = Stage::Closed;
         match done {
             Ok(reply) => {
                 if !say_core(link, self.app, &reply) {
                     return Some(Ending::WriteFault);
                 }
-                self.cursor.after(!refused(&reply));
+                self.program.after(!refused(&reply));
+                self.stage = Stage::Ready;
                 None
             }
             Err(full) => {

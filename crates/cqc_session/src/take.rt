@@ -3,9 +3,9 @@ ghost use Rattle.std.specs.Prelude.{◌≡◌, ℕ, ◌≤◌, ◌<◌, length};
 ghost use Rattle.session_model.specs.Walk.{Connection};
 ghost use Rattle.cqc_session.specs.Session.{TakenAs, TakenCause};
 
-use crate::cursor::Cursor;
-use crate::message::{refusal, say};
+use crate::message::{Asked, asked_by, say};
 use crate::part::{pass_body, read_head};
+use crate::program::Program;
 use cqc_model::Reply;
 use cqc_wire::read_header;
 use qron_link::Link;
@@ -20,35 +20,46 @@ pub enum Taken {
 }
 
 /// Takes one message.
-pub fn take_message<L: Link>(link: &mut L, cursor: &mut Cursor, budget: &mut u64, cap: u64) -> Taken
+pub fn take_message<L: Link>(
+    link: &mut L,
+    program: &mut Program,
+    budget: &mut u64,
+    cap: u64,
+) -> Taken
     ensures taken { (connection : Connection) → TakenAs connection cap (L.left link.old) (L.left link.new) (L.held link.old) (L.held link.new)
-        budget.old budget.new cursor.new.left cursor.new.notify result }
+        budget.old budget.new program.new.left program.new.notify result }
     ensures cause { TakenCause result (L.read_faults link.old) (L.read_faults link.new) (L.write_faults link.old) (L.write_faults link.new) }
+    ensures led { L.was_led link.old link.new }
 {
     let mut head = [0u8; 8];
     if let Some(ending) = read_head(link, &mut head, budget, cap) {
         return Taken::Stopped(ending);
     }
     let header = read_header(&head);
-    if let Some(reply) = refusal(&header) {
-        if let Some(ending) = pass_body(link, header.length, budget, cap) {
-            return Taken::Stopped(ending);
-        }
-        if say(link, header.app, &reply) {
-            return Taken::Answered;
-        }
-        return Taken::Stopped(Ending::WriteFault);
-    }
-    if let Some(ending) = cursor.load(link, header.length, budget, cap) {
-        return Taken::Stopped(ending);
-    }
-    match cursor.open() {
-        None => Taken::Opened { app: header.app },
-        Some(fault) => {
-            if say(link, header.app, &Reply::Error(fault)) {
+    match asked_by(&header) {
+        Asked::Fixed(reply) => {
+            if let Some(ending) = pass_body(link, header.length, budget, cap) {
+                return Taken::Stopped(ending);
+            }
+            if say(link, header.app, &reply) {
                 Taken::Answered
             } else {
                 Taken::Stopped(Ending::WriteFault)
+            }
+        }
+        Asked::List { factory } => {
+            if let Some(ending) = program.load(link, header.length, budget, cap) {
+                return Taken::Stopped(ending);
+            }
+            match program.open(factory) {
+                Ok(()) => Taken::Opened { app: header.app },
+                Err(fault) => {
+                    if say(link, header.app, &Reply::Error(fault)) {
+                        Taken::Answered
+                    } else {
+                        Taken::Stopped(Ending::WriteFault)
+                    }
+                }
             }
         }
     }

@@ -22,7 +22,7 @@ behind_is_short : (n : ℕ) (x : ℕ) (t : List ℕ) → length (x ∷ t) ≤ su
 behind_is_short n x t h = omega (arith, length-drop (size_in_front (x ∷ t)) (x ∷ t))
 
 -- one command and those behind it
-commands_step : (n place x : ℕ) (t : List ℕ)
+pub commands_step : (n place x : ℕ) (t : List ℕ)
     → commands_most (suc n) place (x ∷ t)
     ≡ with_command (command_fault place (x ∷ t)) (command_of (x ∷ t)) (commands_most n (place + size_in_front (x ∷ t)) (behind (x ∷ t)))
 commands_step n place x t = rw (eqb-suc-zero (length t)) refl

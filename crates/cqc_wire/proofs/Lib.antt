@@ -1,2 +1,4 @@
 pub mod CommandLists
 pub mod Counting
+pub mod ReadBack
+pub mod Rooms

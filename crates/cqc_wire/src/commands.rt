@@ -1,20 +1,21 @@
 // The command list of a body.
 ghost use Rattle.std.specs.Prelude.{◌≡◌, ◌+◌, ◌<◌, ◌≤◌, ◌∷◌, length, drop, slice_index, not, IsOk, IsOkAnd, Ok, Err};
-ghost use Rattle.cqc_model.specs.Plan.{commands, command_fault, command_of, command_size, extra_size, has_option, is_built_instr, is_unknown, instr_of, remote_of, number_of, body_limit};
+ghost use Rattle.cqc_model.specs.Plan.{commands, command_fault, command_of, command_size, extra_size, has_option, is_unknown, instr_of, remote_of, body_limit};
 ghost use Rattle.cqc_wire.specs.Body.{command_count};
 
+use crate::bytes::{long_number_at, number_at};
 use crate::number;
 use cqc_model::{BodyFault, Command, Instr, Remote};
 
 /// The bytes of a command without its extra header: qubit (2), instruction (1), options (1).
-const COMMAND_SIZE: usize = 4;
+pub(crate) const COMMAND_SIZE: usize = 4;
 
 // The options, as bits.
-const NOTIFY: u8 = 0;
+pub(crate) const NOTIFY: u8 = 0;
 
 const ACTION: u8 = 1;
 
-const BLOCK: u8 = 2;
+pub(crate) const BLOCK: u8 = 2;
 
 const IFTHEN: u8 = 3;
 
@@ -96,33 +97,18 @@ fn command_in(front: &[u8]) -> Command
 {
     let options = front[3];
     Command {
-        qubit: number_in(front),
+        qubit: number_at(front, 0),
         instr: instr_in(front[2], &front[COMMAND_SIZE..]),
-        notify: has_bit(options, NOTIFY),
+        notify: has_notify(options),
         block: has_bit(options, BLOCK),
     }
 }
 
-// Whether an instruction is known by its number, and built.
+// Whether an instruction is known by its number.
 fn is_known(number: u8) -> bool
     ensures { result ≡ not (is_unknown number) }
 {
-    is_built(number) && extra_size_of(number).is_some()
-}
-
-// Whether the instruction of a number is built: all known ones are but ALLOCATE.
-#[tactic(auto, unfolding(cqc_model::specs::Plan::is_built_instr))]
-fn is_built(number: u8) -> bool
-    ensures { result ≡ is_built_instr number }
-{
-    matches!(
-        number,
-        number::I..=number::EPR_RECV
-            | number::X..=number::K
-            | number::CNOT
-            | number::CPHASE
-            | number::RELEASE
-    )
+    extra_size_of(number).is_some()
 }
 
 // The bytes of an instruction's extra header: a rotation's step, another qubit, or a remote application.
@@ -141,10 +127,17 @@ fn extra_size_of(number: u8) -> Option<usize>
 }
 
 // The bytes of a command with its extra header.
-fn size_of_command(number: u8) -> usize
+pub(crate) fn size_of_command(number: u8) -> usize
     ensures { result ≡ command_size number }
 {
     extra_size_of(number).unwrap_or(0) + COMMAND_SIZE
+}
+
+/// Whether the option NOTIFY is set.
+pub fn has_notify(options: u8) -> bool
+    ensures { result ≡ has_option 0 options }
+{
+    has_bit(options, NOTIFY)
 }
 
 // Whether a bit is set.
@@ -155,23 +148,15 @@ fn has_bit(options: u8, bit: u8) -> bool
     (options >> bit) & 1 == 1
 }
 
-// The number of the first two bytes.
-fn number_in(bytes: &[u8]) -> u16
-    requires { 2 ≤ length bytes.now }
-    ensures { result ≡ number_of bytes.now }
-{
-    u16::from_be_bytes([bytes[0], bytes[1]])
-}
-
 // The remote application of an extra header.
 fn remote_in(extra: &[u8]) -> Remote
     requires { 8 ≤ length extra.now }
     ensures { result ≡ remote_of extra.now }
 {
     Remote {
-        app: u16::from_be_bytes([extra[0], extra[1]]),
-        port: u16::from_be_bytes([extra[2], extra[3]]),
-        node: u32::from_be_bytes([extra[4], extra[5], extra[6], extra[7]]),
+        app: number_at(extra, 0),
+        port: number_at(extra, 2),
+        node: long_number_at(extra, 4),
     }
 }
 
@@ -198,8 +183,8 @@ fn instr_in(number: u8, extra: &[u8]) -> Instr
         number::ROT_Z => Instr::RotZ(extra[0]),
         number::H => Instr::H,
         number::K => Instr::K,
-        number::CNOT => Instr::Cnot(number_in(extra)),
-        number::CPHASE => Instr::Cphase(number_in(extra)),
+        number::CNOT => Instr::Cnot(number_at(extra, 0)),
+        number::CPHASE => Instr::Cphase(number_at(extra, 0)),
         number::ALLOCATE => Instr::Allocate,
         number::RELEASE => Instr::Release,
         _ => Instr::I,

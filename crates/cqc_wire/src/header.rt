@@ -16,8 +16,8 @@ pub fn read_header(bytes: &[u8; 8]) -> Header
     }
 }
 
-// The version of each reply.
-const VERSION: u8 = 2;
+// The version of each message and reply.
+pub(crate) const VERSION: u8 = 2;
 
 // The bytes of a header of version 2: the type, the app, and the length of what follows.
 pub(crate) fn header_bytes(kind: u8, app: u16, size: u32) -> [u8; 8]

@@ -146,10 +146,6 @@ fn extra_headers_must_be_whole(rt: HostRuntime) {
 
 #[test]
 fn unknown_numbers_and_options_come_before_extra_headers(rt: HostRuntime) {
-    assert_eq!(rt;
-        check_body(&[0, 3, 22, 0]),
-        Err(BodyFault::Unsupported { at: 0 })
-    );
     for number in [9, 19, 24, 255] {
         assert_eq!(rt;
             check_body(&[0, 0, number, 0]),
@@ -177,7 +173,7 @@ fn lists_without_faults_are_counted(rt: HostRuntime) {
 }
 
 #[test]
-#[tactic(auto, unfolding(cqc_model::specs::Plan::commands, cqc_model::specs::Plan::is_built_instr))]
+#[tactic(auto, unfolding(cqc_model::specs::Plan::commands))]
 fn commands_are_read_where_they_begin(rt: HostRuntime) {
     let new_and_block = Command {
         qubit: 258,
@@ -196,7 +192,7 @@ fn commands_are_read_where_they_begin(rt: HostRuntime) {
 }
 
 #[test]
-#[tactic(auto, unfolding(cqc_model::specs::Plan::commands, cqc_model::specs::Plan::is_built_instr))]
+#[tactic(auto, unfolding(cqc_model::specs::Plan::commands))]
 fn gates_on_two_qubits_name_the_other(rt: HostRuntime) {
     let cnot = Command {
         qubit: 1,
@@ -235,7 +231,7 @@ const REMOTE: Remote = Remote {
 };
 
 #[test]
-#[tactic(auto, unfolding(cqc_model::specs::Plan::commands, cqc_model::specs::Plan::is_built_instr))]
+#[tactic(auto, unfolding(cqc_model::specs::Plan::commands))]
 fn send_and_epr_name_the_remote_application(rt: HostRuntime) {
     let send = Command {
         qubit: 7,
@@ -266,7 +262,7 @@ fn send_and_epr_name_the_remote_application(rt: HostRuntime) {
 }
 
 #[test]
-#[tactic(auto, unfolding(cqc_model::specs::Plan::commands, cqc_model::specs::Plan::is_built_instr))]
+#[tactic(auto, unfolding(cqc_model::specs::Plan::commands))]
 fn recv_and_epr_recv_have_four_bytes(rt: HostRuntime) {
     let recv = Command {
         qubit: 0,
@@ -295,4 +291,148 @@ fn recv_and_epr_recv_have_four_bytes(rt: HostRuntime) {
             next: 8
         }
     );
+}
+
+#[test]
+#[tactic(auto, unfolding(cqc_model::specs::Plan::commands))]
+fn allocate_tells_its_count(rt: HostRuntime) {
+    let allocate = Command {
+        qubit: 3,
+        instr: Instr::Allocate,
+        notify: true,
+        block: false,
+    };
+    assert_eq!(rt; check_body(&[0, 3, 22, 1]), Ok(1));
+    assert_eq!(rt;
+        command_at(&[0, 3, 22, 1], 0),
+        Step {
+            command: allocate,
+            next: 4
+        }
+    );
+}
+
+// The header of a reply to application 7.
+fn reply_head(kind: u8, length: u32) -> Header {
+    Header {
+        version: 2,
+        kind,
+        app: 7,
+        length,
+    }
+}
+
+#[test]
+fn replies_are_read(rt: HostRuntime) {
+    assert_eq!(rt; read_reply(&reply_head(0, 0), &[]), Some(Reply::Hello));
+    assert_eq!(rt; read_reply(&reply_head(4, 0), &[]), Some(Reply::Done));
+    assert_eq!(rt;
+        read_reply(&reply_head(10, 2), &[1, 2]),
+        Some(Reply::New(258))
+    );
+    assert_eq!(rt;
+        read_reply(&reply_head(5, 2), &[0, 3]),
+        Some(Reply::Received(3))
+    );
+    assert_eq!(rt;
+        read_reply(&reply_head(7, 1), &[1]),
+        Some(Reply::Outcome(true))
+    );
+    let unknown = Reply::Error(Fault::Unknown);
+    assert_eq!(rt; read_reply(&reply_head(25, 0), &[]), Some(unknown));
+}
+
+#[test]
+fn a_pair_is_read_where_its_last_bytes_are_0(rt: HostRuntime) {
+    let info = PairInfo {
+        node_a: 0x7F00_0001,
+        port_a: 0x2275,
+        app_a: 1,
+        node_b: 0x7F00_0001,
+        port_b: 0x2276,
+        app_b: 2,
+        pair: 9,
+    };
+    let mut room = reply_in_room(7, Reply::Pair(3, info));
+    let head = reply_head(6, 42);
+    assert_eq!(rt;
+        read_reply(&head, &room.out[8..50]),
+        Some(Reply::Pair(3, info))
+    );
+    room.out[40] = 1;
+    assert_eq!(rt; read_reply(&head, &room.out[8..50]), None);
+}
+
+#[test]
+fn what_is_no_reply_is_not_read(rt: HostRuntime) {
+    let another_version = Header {
+        version: 1,
+        ..reply_head(0, 0)
+    };
+    assert_eq!(rt; read_reply(&another_version, &[]), None);
+    assert_eq!(rt; read_reply(&reply_head(1, 0), &[]), None);
+    assert_eq!(rt; read_reply(&reply_head(24, 0), &[]), None);
+    assert_eq!(rt; read_reply(&reply_head(7, 1), &[2]), None);
+    assert_eq!(rt; read_reply(&reply_head(10, 2), &[1]), None);
+    assert_eq!(rt; read_reply(&reply_head(10, 3), &[1, 2, 3]), None);
+}
+
+// A command without operand that asks for DONE.
+fn notifying(qubit: u16, instr: Instr) -> Command {
+    Command {
+        qubit,
+        instr,
+        notify: true,
+        block: false,
+    }
+}
+
+#[test]
+fn messages_have_their_bytes(rt: HostRuntime) {
+    let mut out = [BEFORE; 24];
+    let hello = write_message(&mut out, &Head::Hello { app: 7 }, &[]);
+    assert_eq!(rt; hello, Ok(8));
+    assert!(rt; out[..9] == [2, 0, 0, 7, 0, 0, 0, 0, BEFORE]);
+    let x = Command {
+        notify: false,
+        block: true,
+        ..notifying(258, Instr::X)
+    };
+    let cnot = notifying(1, Instr::Cnot(3));
+    let commands = write_message(&mut out, &Head::Commands { app: 1 }, &[x, cnot]);
+    assert_eq!(rt; commands, Ok(18));
+    assert!(rt; out[..8] == [2, 1, 0, 1, 0, 0, 0, 10]);
+    assert!(rt; out[8..19] == [1, 2, 10, 4, 0, 1, 20, 1, 0, 3, BEFORE]);
+}
+
+#[test]
+fn factories_have_repeats_and_options(rt: HostRuntime) {
+    let mut out = [BEFORE; 24];
+    let head = Head::Factory {
+        app: 0,
+        repeats: 200,
+        notify: true,
+    };
+    let size = write_message(&mut out, &head, &[notifying(0, Instr::RotX(32))]);
+    assert_eq!(rt; size, Ok(15));
+    assert!(rt; out[..8] == [2, 2, 0, 0, 0, 0, 0, 7]);
+    assert!(rt; out[8..16] == [200, 1, 0, 0, 14, 1, 32, BEFORE]);
+}
+
+#[test]
+fn transfers_name_the_remote_application_when_sent(rt: HostRuntime) {
+    let mut out = [BEFORE; 24];
+    let epr = notifying(0, Instr::Epr(REMOTE));
+    let size = write_message(&mut out, &Head::Commands { app: 0 }, &[epr]);
+    assert_eq!(rt; size, Ok(20));
+    assert!(rt; out[8..20] == [0, 0, 7, 1, 0, 2, 0x22, 0x76, 0x7F, 0, 0, 1]);
+}
+
+#[test]
+fn a_message_longer_than_the_room_is_not_written(rt: HostRuntime) {
+    let mut out = [BEFORE; 11];
+    let new = notifying(0, Instr::New);
+    let size = write_message(&mut out, &Head::Commands { app: 0 }, &[new]);
+    assert_eq!(rt; size, Err(NoRoom { need: 12 }));
+    assert!(rt; out == [BEFORE; 11]);
 }

@@ -1,7 +1,6 @@
 -- Cells with next values: what is put there adds to what is prepared, and what they are when all is settled or forgotten.
 -- The main result is `settled-fit`: a step that fits makes cells that fit the state after it.
 use Rattle.std.proofs.Common.{ℕ, ◌≡◌, ◌==◌, Bool, true, false, cond, List, ◌∷◌, Option, Some, None, IsSome, is_some, option_map, unwrap_or, refl, sym, ap, subst, ◌∙◌}
-use mathlib.Core.Path.{fun_ext}
 use Rattle.state_model.specs.Amplitudes.{Amplitudes}
 use Rattle.state_model.proofs.Booleans.{eq_of, clash}
 use Rattle.amplitude_register.specs.States.{RegisterState, empty, prepared}
@@ -18,18 +17,12 @@ use Rattle.core_cells.specs.Cells.{Cells, CellsFit, put_node, put_pool, put_slot
 use Rattle.core_cells.specs.declared.cells.NodePair.{NodePair}
 use Rattle.core_cells.specs.declared.cells.PoolPair.{PoolPair}
 use Rattle.core_cells.specs.declared.cells.SlotCell.{SlotCell}
+use Rattle.core_cells.proofs.CellLemmas.{cells_by}
 use Rattle.factored_core.specs.Changes.{Changes, no_changes, change_at, changed, with_next_node, with_next_pool, with_next_slot, ChangesFit, register_with}
 use Rattle.factored_core.specs.Slots.{HasPrepared, IsGated, IsKeptFrom}
 use Rattle.state_model.specs.declared.Gate.{Gate}
 use Rattle.std.specs.Prelude.{MatchResult, Result, Ok, Err}
 use Rattle.amplitude_register.specs.declared.register.TooLarge.{TooLarge}
-
--- cells are the same where their nodes, pool and slots are
-pub cells_by : (a b : Cells) → ((m : ℕ) → a.node m ≡ b.node m) → a.pool ≡ b.pool → ((t : ℕ) → a.slot t ≡ b.slot t) → a ≡ b
-cells_by a b nodes pool slots =
-    ap (λ f. record a { node = f }) (fun_ext nodes)
-    ∙ ap (λ p. record a { node = b.node; pool = p }) pool
-    ∙ ap (λ f. record b { slot = f }) (fun_ext slots)
 
 -- what is mapped is there, from what is there
 pub there : {A B : Type 0} (f : A → B) (o : Option A) (b : B) → option_map f o ≡ Some b → (a : A) × ((o ≡ Some a) × (f a ≡ b))

@@ -8,28 +8,29 @@ use Rattle.state_model.specs.Gate.{gate, matrix}
 use Rattle.state_model.specs.declared.Gate.{Gate}
 use Rattle.cqc_model.specs.declared.Fault.TheVariants.{General}
 use Rattle.network_model.specs.Network.{Network, Shape}
-use Rattle.network_model.specs.Step.{IsReply, IsTooLarge, gate_of, two_of, remote_of, own_number, refusal, effect, after_gate, quiet, draws, Stepped}
+use Rattle.network_model.specs.Kinds.{kind_of, second_of, remote_of, is_gate, is_making, is_measurement}
+use Rattle.network_model.specs.Step.{IsReply, IsTooLarge, own_number, refusal, effect, effect_of, after_gate, quiet, draws}
 use Rattle.network_model.specs.History.{IsLegalEntry, advance, is_error, is_general}
-use Rattle.network_model.specs.Factored.{FitsNode, FitsSlot, touches_slot, touches_pool, homes_step, homes_by, operand_in_slot}
+use Rattle.network_model.specs.Factored.{FitsNode, FitsSlot, touches_slot, touches_pool, homes_step, homes_by, operand_in_slot, effect_touches_slot, effect_touches_pool}
 use Rattle.network_model.specs.declared.Call.{Call}
+use Rattle.network_model.specs.declared.Kind.TheVariants.{Gate as OneGate}
 use Rattle.network_model.specs.declared.Entry.{Entry}
 use Rattle.network_model.specs.declared.CoreReply.{CoreReply}
 use Rattle.network_model.specs.declared.CoreReply.TheVariants as reply
 use Rattle.qubit_handles.specs.Handle.{number_of}
 use Rattle.virtual_node.specs.Node.{Node, held_map, arrived_map}
 use Rattle.cell_laws.specs.Standing.{IsStanding}
-use Rattle.cell_laws.proofs.Instructions.{IsOneGate, one_gate}
 use Rattle.cell_laws.proofs.StepSlots.{gate_step, gate_too_large}
 use Rattle.core_cells.specs.Cells.{Cells, CellsFit, register_of}
 use Rattle.factored_core.specs.Changes.{Changes, IsStepBy, ChangesFit, register_with}
 use Rattle.factored_core.specs.Ready.{IsReady}
-use Rattle.factored_core.specs.Slots.{IsSeat}
-use Rattle.factored_core.specs.declared.slots.Seat.{Seat}
+use Rattle.factored_core.specs.Slots.{IsSpot}
+use Rattle.factored_core.specs.declared.slots.Spot.{Spot}
 use Rattle.factored_core.proofs.ChangeLists.{change_nil, change_cons, number_one}
-use Rattle.factored_core.proofs.Operands.{none_refuses, own_fits, own_number_is, operand_lives, seat_home, seat_fits}
+use Rattle.factored_core.proofs.Operands.{none_refuses, own_fits, own_number_is, operand_lives, spot_home, spot_fits}
 use Rattle.factored_core.proofs.Legal.{reply_done, reply_too_large, legal_entry, other_draws_none}
-use Rattle.factored_core.proofs.NodeSteps.{gate_keeps_nodes, node_kept}
-use Rattle.factored_core.proofs.Locals.{own_touched, keeps_local}
+use Rattle.factored_core.proofs.NodeSteps.{node_kept}
+use Rattle.factored_core.proofs.Locals.{own_touched}
 
 -- the own node's value and one slot's
 abbrev pub in_slot : ℕ → Node → ℕ → Amplitudes → Changes
@@ -40,10 +41,7 @@ abbrev pub said : Call → CoreReply → Entry
 said c r = record { call = c; word = None; reply = r }
 
 module _ (shape : Shape) (c : Call) (cs : Cells) (own : Node) (ready : IsReady shape c cs own) (q : ℕ) (held : number_of own.handles c.app c.command.qubit ≡ Some q)
-    (seat : Seat) (at : IsSeat cs q seat) (g : Gate) (is : gate_of c.command.instr ≡ Some g) where
-  kind : IsOneGate c.command.instr g
-  kind = one_gate c.command.instr g is
-
+    (spot : Spot) (at : IsSpot cs q spot) (g : Gate) (is : kind_of c.command.instr ≡ OneGate g) where
   abbrev r : Register
   r = register_of (at.cell).register
 
@@ -54,17 +52,19 @@ module _ (shape : Shape) (c : Call) (cs : Cells) (own : Node) (ready : IsReady s
     lives : is_listed s.live (own_number s c) ≡ true
     lives = subst (λ (n : ℕ). is_listed s.live n ≡ true) (sym number) (operand_lives shape c cs own ready s home standing fit c.command.qubit q held)
 
-    at_slot : home (own_number s c) ≡ seat.slot
-    at_slot = ap home number ∙ seat_home shape c cs own ready s home standing fit q seat at
+    at_slot : home (own_number s c) ≡ spot.slot
+    at_slot = ap home number ∙ spot_home shape c cs own ready s home standing fit q spot at
 
     here : FitsSlot shape s home (home (own_number s c)) r
-    here = subst (λ (n : ℕ). FitsSlot shape s home (home n) r) (sym number) (seat_fits shape c cs own ready s home standing fit q seat at)
+    here = subst (λ (n : ℕ). FitsSlot shape s home (home n) r) (sym number) (spot_fits shape c cs own ready s home standing fit q spot at)
 
     not_refused : refusal shape s c ≡ None
-    not_refused = none_refuses shape c cs own ready s home standing fit kind.no_second
+    unfolding second_of
+    not_refused = none_refuses shape c cs own ready s home standing fit (ap second_of is)
 
     no_draw : draws s c ≡ false
-    no_draw = other_draws_none s c kind.draws_none
+    unfolding is_measurement
+    no_draw = other_draws_none s c (ap is_measurement is)
 
     legal : (x : CoreReply) → IsReply shape s c 0 x → IsLegalEntry shape s (said c x)
     legal x is = legal_entry shape s c None x ready.range (ready.allowed).node (ready.allowed).instr (λ n e. absurd (never n e)) (sym no_draw) is
@@ -73,20 +73,21 @@ module _ (shape : Shape) (c : Call) (cs : Cells) (own : Node) (ready : IsReady s
         never n e = cc
 
     -- the own node and the slot are touched, and nothing else
-    local : remote_of c.command.instr ≡ None
-    local = keeps_local c.command.instr (gate_keeps_nodes c.command.instr g is)
+    local : remote_of (kind_of c.command.instr) ≡ None
+    unfolding remote_of
+    local = ap remote_of is
 
     -- ---- the gate is made
-    made : (a : Amplitudes) → FitsSlot shape ((effect shape s c 0).state) (homes_by s home c c.command.instr) seat.slot (register_with shape.limit a) → ChangesFit shape s home (said c reply.Silent) (in_slot c.node own seat.slot a)
-    unfolding advance is_error homes_step touches_slot touches_pool
+    made : (a : Amplitudes) → FitsSlot shape ((effect shape s c 0).state) (homes_by s home c (kind_of c.command.instr)) spot.slot (register_with shape.limit a) → ChangesFit shape s home (said c reply.Silent) (in_slot c.node own spot.slot a)
+    unfolding advance is_error homes_step touches_slot touches_pool effect_touches_slot operand_in_slot effect_touches_pool is_making is_measurement
     made a fits = record {
       nodes_touched = own_touched shape c own None reply.Silent local;
-      pool_touched = kind.no_pool s c;
-      slots_touched = λ t. kind.touches s home c t ∙ ap (λ n. n == t) at_slot ∙ sym (number_one seat.slot a t);
+      pool_touched = ap (effect_touches_pool s c) is;
+      slots_touched = λ t. ap (effect_touches_slot s home c t) is ∙ ap (λ n. n == t) at_slot ∙ sym (number_one spot.slot a t);
       nodes = change_cons (λ m n. FitsNode ((effect shape s c 0).state) m (held_map n) (arrived_map n)) c.node own []
-          (node_kept shape s c 0 c.node own (own_fits shape c cs own ready s home standing fit) (gate_keeps_nodes c.command.instr g is)) (change_nil (λ m n. FitsNode ((effect shape s c 0).state) m (held_map n) (arrived_map n)));
+          (node_kept shape s c 0 c.node own (own_fits shape c cs own ready s home standing fit) (OneGate g) is refl) (change_nil (λ m n. FitsNode ((effect shape s c 0).state) m (held_map n) (arrived_map n)));
       pool = λ p e. absurd (no_some p e);
-      slots = change_cons (λ t b. FitsSlot shape ((effect shape s c 0).state) (homes_step s home (said c reply.Silent)) t (register_with shape.limit b)) seat.slot a []
+      slots = change_cons (λ t b. FitsSlot shape ((effect shape s c 0).state) (homes_step s home (said c reply.Silent)) t (register_with shape.limit b)) spot.slot a []
           fits
           (change_nil (λ t b. FitsSlot shape ((effect shape s c 0).state) (homes_step s home (said c reply.Silent)) t (register_with shape.limit b)));
     }
@@ -96,44 +97,41 @@ module _ (shape : Shape) (c : Call) (cs : Cells) (own : Node) (ready : IsReady s
 
     -- the slot's register after the gate, as it is prepared
     prepared_fits : (a : Amplitudes) → a.qubits ≡ r.qubits → IsSameState (register_vector r.qubits a.list) (gate (matrix g) q (register_vector r.qubits r.list))
-        → FitsSlot shape ((effect shape s c 0).state) (homes_by s home c c.command.instr) seat.slot (register_with shape.limit a)
+        → FitsSlot shape ((effect shape s c 0).state) (homes_by s home c (kind_of c.command.instr)) spot.slot (register_with shape.limit a)
     prepared_fits a qubits same =
         let fits = gate_step shape s home c standing lives r here g is 0 a.list (subst (λ (n : ℕ). IsSameState (register_vector r.qubits a.list) (gate (matrix g) n (register_vector r.qubits r.list))) (sym number) same) in
-        subst (λ (t : ℕ). FitsSlot shape ((effect shape s c 0).state) (homes_by s home c c.command.instr) t (register_with shape.limit a)) at_slot
-        (subst (λ (qs : List ℕ). FitsSlot shape ((effect shape s c 0).state) (homes_by s home c c.command.instr) (home (own_number s c)) (record { limit = shape.limit; qubits = qs; list = a.list })) (sym qubits)
-        (subst (λ (l : ℕ). FitsSlot shape ((effect shape s c 0).state) (homes_by s home c c.command.instr) (home (own_number s c)) (record { limit = l; qubits = r.qubits; list = a.list })) here.limit fits))
+        subst (λ (t : ℕ). FitsSlot shape ((effect shape s c 0).state) (homes_by s home c (kind_of c.command.instr)) t (register_with shape.limit a)) at_slot
+        (subst (λ (qs : List ℕ). FitsSlot shape ((effect shape s c 0).state) (homes_by s home c (kind_of c.command.instr)) (home (own_number s c)) (record { limit = shape.limit; qubits = qs; list = a.list })) (sym qubits)
+        (subst (λ (l : ℕ). FitsSlot shape ((effect shape s c 0).state) (homes_by s home c (kind_of c.command.instr)) (home (own_number s c)) (record { limit = l; qubits = r.qubits; list = a.list })) here.limit fits))
 
     large_by : (n : ℕ) → IsSize (gate (matrix g) q (register_vector r.qubits r.list)) r.qubits n → (2 ^ 60 ≤ n → IsTooLarge shape s c) × (n < 2 ^ 60 → ¬ IsTooLarge shape s c)
     large_by n size = gate_too_large shape s home c standing lives r here g is (at.rows).distinct n (subst (λ (k : ℕ). IsSize (gate (matrix g) k (register_vector r.qubits r.list)) r.qubits n) (sym number) size)
 
     reply_is : (effect shape s c 0).reply ≡ reply.Silent
-    unfolding effect after_gate quiet
-    reply_is = ap (λ (t : Stepped). t.reply) (kind.effect_is shape s c 0)
+    unfolding effect effect_of after_gate quiet
+    reply_is = ap (λ k. (effect_of shape s c 0 k).reply) is
 
     -- ---- the gate's result is too large: nothing changes
-    refused : (a : Amplitudes) → a ≡ ((at.cell).register).value → ChangesFit shape s home (said c (reply.Error General)) (in_slot c.node own seat.slot a)
-    unfolding advance is_error homes_step touches_slot touches_pool is_general
+    refused : (a : Amplitudes) → a ≡ ((at.cell).register).value → ChangesFit shape s home (said c (reply.Error General)) (in_slot c.node own spot.slot a)
+    unfolding advance is_error homes_step touches_slot touches_pool is_general is_gate operand_in_slot
     refused a same = record {
       nodes_touched = own_touched shape c own None (reply.Error General) local;
       pool_touched = refl;
-      slots_touched = λ t. ap (λ (b : Bool). b && operand_in_slot s home c t c.command.instr) gated ∙ kind.operands s home c t ∙ ap (λ n. n == t) at_slot ∙ sym (number_one seat.slot a t);
+      slots_touched = λ t. ap (λ k. is_gate k && operand_in_slot s home c t k) is ∙ ap (λ n. n == t) at_slot ∙ sym (number_one spot.slot a t);
       nodes = change_cons (λ m n. FitsNode s m (held_map n) (arrived_map n)) c.node own [] (own_fits shape c cs own ready s home standing fit) (change_nil (λ m n. FitsNode s m (held_map n) (arrived_map n)));
       pool = λ p e. absurd (no_some p e);
-      slots = change_cons (λ t b. FitsSlot shape s home t (register_with shape.limit b)) seat.slot a []
-          (subst (λ (b : Amplitudes). FitsSlot shape s home seat.slot (register_with shape.limit b)) (sym same)
-          (subst (λ (l : ℕ). FitsSlot shape s home seat.slot (register_with l ((at.cell).register).value)) here.limit (fit.slots seat.slot at.cell at.there)))
+      slots = change_cons (λ t b. FitsSlot shape s home t (register_with shape.limit b)) spot.slot a []
+          (subst (λ (b : Amplitudes). FitsSlot shape s home spot.slot (register_with shape.limit b)) (sym same)
+          (subst (λ (l : ℕ). FitsSlot shape s home spot.slot (register_with l ((at.cell).register).value)) here.limit (fit.slots spot.slot at.cell at.there)))
           (change_nil (λ t b. FitsSlot shape s home t (register_with shape.limit b)));
     }
       where
         no_some : {A : Type 0} (p : A) → None ≡ Some p → ⊥
         no_some p e = cc
 
-        gated : (is_some (gate_of c.command.instr) || is_some (two_of c.command.instr)) ≡ true
-        gated = ap (λ (o : Option Gate). is_some o || is_some (two_of c.command.instr)) is
-
   -- the gate is made
   pub gate_done : (a : Amplitudes) → a.qubits ≡ r.qubits → IsSameState (register_vector r.qubits a.list) (gate (matrix g) q (register_vector r.qubits r.list))
-      → (n : ℕ) → IsSize (gate (matrix g) q (register_vector r.qubits r.list)) r.qubits n → n < 2 ^ 60 → IsStepBy shape cs (in_slot c.node own seat.slot a) (said c reply.Silent)
+      → (n : ℕ) → IsSize (gate (matrix g) q (register_vector r.qubits r.list)) r.qubits n → n < 2 ^ 60 → IsStepBy shape cs (in_slot c.node own spot.slot a) (said c reply.Silent)
   gate_done a qubits same n size small s home standing fit = (
     legal s home standing fit reply.Silent (reply_done shape s c 0 reply.Silent (not_refused s home standing fit) ((large_by s home standing fit n size).1 small) (sym (reply_is s home standing fit))),
     made s home standing fit a (prepared_fits s home standing fit a qubits same),
@@ -141,7 +139,7 @@ module _ (shape : Shape) (c : Call) (cs : Cells) (own : Node) (ready : IsReady s
 
   -- it is refused, and the slot's value is prepared again
   pub gate_refused : (a : Amplitudes) → a ≡ ((at.cell).register).value → (n : ℕ) → IsSize (gate (matrix g) q (register_vector r.qubits r.list)) r.qubits n → 2 ^ 60 ≤ n
-      → IsStepBy shape cs (in_slot c.node own seat.slot a) (said c (reply.Error General))
+      → IsStepBy shape cs (in_slot c.node own spot.slot a) (said c (reply.Error General))
   gate_refused a same n size large s home standing fit = (
     legal s home standing fit (reply.Error General) (reply_too_large shape s c 0 (not_refused s home standing fit) ((large_by s home standing fit n size).0 large)),
     refused s home standing fit a same,

@@ -4,14 +4,16 @@ use Rattle.std.proofs.Common.{◌≡◌, ◌≢◌, ℕ, ◌*◌, ◌<◌, ◌�
 use Rattle.state_model.specs.Row.{is_listed}
 use Rattle.state_model.proofs.Booleans.{eq_of, ne_of, or_false}
 use Rattle.state_model.proofs.Numbers.{is_listed-snoc, was_listed}
-use Rattle.cqc_model.specs.declared.Instr.{Instr}
-use Rattle.cqc_model.specs.declared.Instr.TheVariants.{I, New, Measure, MeasureInplace, Reset, Send, Recv, Epr, EprRecv, X, Z, Y, T, RotX, RotY, RotZ, H, K, Cnot, Cphase, Allocate, Release}
+use Rattle.network_model.specs.declared.Kind.{Kind}
 use Rattle.cqc_model.specs.declared.PairInfo.{PairInfo}
 use Rattle.network_model.specs.Network.{Network, Shape, Waiting, opening, group_of, load}
-use Rattle.network_model.specs.Step.{effect, effect_of, refusal, is_without_operand, is_making, taken_out, left_as, received, received_first, pair_reply, quiet, after_gate, after_two, least_free, own_number}
+use Rattle.network_model.specs.Kinds.{kind_of, takes_qubit, is_making}
+use Rattle.network_model.specs.Step.{effect, effect_of, refusal, refusal_of, measured, taken_out, left_as, received, received_first, quiet, after_gate, after_two, least_free, own_number}
 use Rattle.network_model.specs.History.{is_error, advance, after, IsLegal, IsLegalFrom, IsLegalEntry}
 use Rattle.network_model.specs.Factored.{homes_by, homes_step, homes_from, homes_after, used_slots, moved, gathered, parted}
+use Rattle.network_model.specs.declared.After.TheVariants.{TakenOut, Left, Cleared}
 use Rattle.network_model.specs.declared.Call.{Call}
+use Rattle.network_model.specs.declared.Kind.TheVariants.{Idle, Gate as OneGate, Inexact, Two as TwoGate, Measure, Make, Pair, Send, Receive, Unrolled}
 use Rattle.network_model.specs.declared.CoreReply.{CoreReply}
 use Rattle.network_model.specs.declared.CoreReply.TheVariants as reply
 use Rattle.network_model.specs.declared.Entry.{Entry}
@@ -72,9 +74,8 @@ module _ (shape : Shape) (s : Network) (home : ℕ → ℕ) (c : Call) (standing
   slot_is_low : load s c.node < shape.room → least_free (used_slots s.live home) < bound
   slot_is_low room = free_slot s.live home bound (fewer_live shape s standing.sound c.node node room)
 
-  own_room : (i : Instr) → c.command.instr ≡ i → is_making i ≡ true → refusal shape s c ≡ None → load s c.node < shape.room
-  own_room i k making e = less_of (load s c.node) shape.room
-      (sym (ap (λ b. b && not (nat_lt (load s c.node) shape.room)) (ap is_making k ∙ making)) ∙ (accepted_lines shape s c e).own_room)
+  own_room : (k : Kind) → is_making k ≡ true → refusal_of shape s c k ≡ None → load s c.node < shape.room
+  own_room k making e = less_of (load s c.node) shape.room (sym (ap (λ b. b && not (nat_lt (load s c.node) shape.room)) making) ∙ (accepted_lines shape s c k e).own_room)
 
   parted_homed : (q : ℕ) → is_listed s.live q ≡ true → AreHomed bound s.live (parted s home q)
   unfolding parted
@@ -85,55 +86,45 @@ module _ (shape : Shape) (s : Network) (home : ℕ → ℕ) (c : Call) (standing
       by false e = subst (λ t. cond t (home x) (moved home q (least_free (used_slots s.live home)) x) < bound) (sym e)
           (moved_homed bound home q (least_free (used_slots s.live home)) x (shared_group_slot shape s home q standing inside (ne_of _ _ e)) (λ other. standing.homed x i))
 
-  received_homed : (l : Line) (answer : ℕ → Option PairInfo → CoreReply) (es : List Waiting) → AreHomed bound ((received_first s c l answer es).state).live home
+  received_homed : (l : Line) (es : List Waiting) → AreHomed bound ((received_first s c l es).state).live home
   unfolding received_first
-  received_homed l answer [] = standing.homed
-  received_homed l answer (e ∷ es) = standing.homed
+  received_homed l [] = standing.homed
+  received_homed l (e ∷ es) = standing.homed
 
-  own_at : (i : Instr) → c.command.instr ≡ i → is_without_operand i ≡ false → refusal shape s c ≡ None → is_listed s.live (own_number s c) ≡ true
-  own_at i k takes e = own_live shape s c standing.sound e (ap is_without_operand k ∙ takes)
+  own_at : (k : Kind) → takes_qubit k ≡ true → refusal_of shape s c k ≡ None → is_listed s.live (own_number s c) ≡ true
+  own_at k takes e = own_live shape s c k standing.sound e takes
 
-  homed_by : (word : ℕ) (i : Instr) → c.command.instr ≡ i → refusal shape s c ≡ None → AreHomed bound ((effect_of shape s c word i).state).live (homes_by s home c i)
-  unfolding effect_of quiet after_gate after_two taken_out left_as received homes_by is_without_operand is_making
-  homed_by word I k e = standing.homed
-  homed_by word New k e = λ x i. moved_homed bound home _ _ x (slot_is_low (own_room New k refl e)) (λ other. standing.homed x (listed_before s.live _ x i other))
-  homed_by word X k e = standing.homed
-  homed_by word Y k e = standing.homed
-  homed_by word Z k e = standing.homed
-  homed_by word T k e = standing.homed
-  homed_by word H k e = standing.homed
-  homed_by word K k e = standing.homed
-  homed_by word (RotX step) k e = standing.homed
-  homed_by word (RotY step) k e = standing.homed
-  homed_by word (RotZ step) k e = standing.homed
-  homed_by word (Cnot id) k e = λ x i. gathered_homed bound home _ _ x (standing.homed (own_number s c) (own_at (Cnot id) k refl e)) (standing.homed x i)
-  homed_by word (Cphase id) k e = λ x i. gathered_homed bound home _ _ x (standing.homed (own_number s c) (own_at (Cphase id) k refl e)) (standing.homed x i)
-  homed_by word Measure k e = λ x i. standing.homed x (was_listed s.live _ x i)
-  homed_by word MeasureInplace k e = parted_homed (own_number s c) (own_at MeasureInplace k refl e)
-  homed_by word Reset k e = parted_homed (own_number s c) (own_at Reset k refl e)
-  homed_by word Release k e = λ x i. standing.homed x (was_listed s.live _ x i)
-  homed_by word (Send r) k e = standing.homed
-  homed_by word (Epr r) k e = λ x i. let low = slot_is_low (own_room (Epr r) k refl e) in
+  homed_by : (word : ℕ) (k : Kind) → refusal_of shape s c k ≡ None → AreHomed bound ((effect_of shape s c word k).state).live (homes_by s home c k)
+  unfolding effect_of quiet after_gate after_two measured taken_out left_as received homes_by takes_qubit is_making
+  homed_by word Idle e = standing.homed
+  homed_by word (OneGate g) e = standing.homed
+  homed_by word Inexact e = standing.homed
+  homed_by word (TwoGate g id) e = λ x i. gathered_homed bound home _ _ x (standing.homed (own_number s c) (own_at (TwoGate g id) refl e)) (standing.homed x i)
+  homed_by word (Measure TakenOut told) e = λ x i. standing.homed x (was_listed s.live _ x i)
+  homed_by word (Measure Left told) e = parted_homed (own_number s c) (own_at (Measure Left told) refl e)
+  homed_by word (Measure Cleared told) e = parted_homed (own_number s c) (own_at (Measure Cleared told) refl e)
+  homed_by word Make e = λ x i. moved_homed bound home _ _ x (slot_is_low (own_room Make refl e)) (λ other. standing.homed x (listed_before s.live _ x i other))
+  homed_by word (Pair r) e = λ x i. let low = slot_is_low (own_room (Pair r) refl e) in
       moved_homed bound _ _ _ x low (λ not_q. moved_homed bound home _ _ x low (λ not_p. standing.homed x (listed_before_two s.live _ _ x i not_q not_p)))
-  homed_by word Recv k e = received_homed line.Sent (λ id info. reply.Received id) _
-  homed_by word EprRecv k e = received_homed line.Pair pair_reply _
-  homed_by word Allocate k e = standing.homed
+  homed_by word (Send r) e = standing.homed
+  homed_by word (Receive l) e = received_homed l _
+  homed_by word Unrolled e = standing.homed
 
 legal_entries_keep_homed : (shape : Shape) (s : Network) (home : ℕ → ℕ) (e : Entry) → IsStanding shape s home → IsLegalEntry shape s e
     → AreHomed (length shape.places * shape.room) (advance shape s e).live (homes_step s home e)
-unfolding advance homes_step effect
+unfolding advance homes_step effect refusal
 legal_entries_keep_homed shape s home e standing legal = by (is_error e.reply) refl
   where
     next : Network
-    next = (effect_of shape s e.call (unwrap_or e.word 0) e.call.command.instr).state
+    next = (effect_of shape s e.call (unwrap_or e.word 0) (kind_of e.call.command.instr)).state
 
     later : ℕ → ℕ
-    later = homes_by s home e.call e.call.command.instr
+    later = homes_by s home e.call (kind_of e.call.command.instr)
 
     by : (t : Bool) → is_error e.reply ≡ t → AreHomed (length shape.places * shape.room) (cond (is_error e.reply) s next).live (cond (is_error e.reply) home later)
     by true f = subst (λ t. AreHomed (length shape.places * shape.room) (cond t s next).live (cond t home later)) (sym f) standing.homed
     by false f = subst (λ t. AreHomed (length shape.places * shape.room) (cond t s next).live (cond t home later)) (sym f)
-        (homed_by shape s home e.call standing legal.node (unwrap_or e.word 0) e.call.command.instr refl (accepted shape s e.call (unwrap_or e.word 0) e.reply legal.reply f))
+        (homed_by shape s home e.call standing legal.node (unwrap_or e.word 0) (kind_of e.call.command.instr) (accepted shape s e.call (unwrap_or e.word 0) e.reply legal.reply f))
 
 -- each legal entry leads from a state that cells can stand for to another
 pub standing_step : (shape : Shape) (s : Network) (home : ℕ → ℕ) (e : Entry) → IsStanding shape s home → IsLegalEntry shape s e → IsStanding shape (advance shape s e) (homes_step s home e)

@@ -5,16 +5,19 @@ use Rattle.state_model.specs.declared.Gate.{Gate}
 use Rattle.state_model.proofs.Booleans.{clash}
 use Rattle.cqc_model.specs.declared.Fault.{Fault}
 use Rattle.cqc_model.specs.declared.Fault.TheVariants.{General, NoQubit, Unsupported, Timeout, Unknown}
-use Rattle.cqc_model.specs.declared.Instr.{Instr}
-use Rattle.cqc_model.specs.declared.Instr.TheVariants.{Measure, MeasureInplace, Reset, Allocate, Release}
+use Rattle.network_model.specs.declared.Kind.{Kind}
 use Rattle.network_model.specs.Network.{Network, Shape, load, queue}
-use Rattle.network_model.specs.Step.{refusal, first_fault, fails, is_measurement, is_without_operand, is_making, is_pair, gate_of, two_of, rotation_of, remote_of, line_of, operand, own_number, other_number, remote_node, united_group, effect, draws, IsTooLarge, IsReply}
+use Rattle.network_model.specs.Kinds.{kind_of, takes_qubit, second_of, remote_of, line_of, is_gate, is_inexact, is_measurement, is_making, is_pair}
+use Rattle.network_model.specs.Step.{refusal, refusal_of, first_fault, holds_of, operand, own_number, other_number, remote_node, united_group, effect, draws, IsTooLarge, IsReply}
 use Rattle.network_model.specs.History.{IsLegalEntry, is_error, advance}
+use Rattle.cqc_model.specs.declared.Instr.TheVariants as instr
 use Rattle.network_model.specs.declared.Call.{Call}
+use Rattle.network_model.specs.declared.Kind.TheVariants.{Measure}
 use Rattle.network_model.specs.declared.CoreReply.{CoreReply}
 use Rattle.network_model.specs.declared.CoreReply.TheVariants as reply
 use Rattle.network_model.specs.declared.Line.TheVariants as line
 use Rattle.factored_core.specs.Ranges.{IsCallInRange}
+use Rattle.factored_core.specs.Ready.{IsAllowedCall}
 
 -- ---- replies
 module _ (shape : Shape) (s : Network) (c : Call) (word : ℕ) where
@@ -52,86 +55,42 @@ module _ (shape : Shape) (s : Network) (c : Call) (word : ℕ) where
   }
 
 -- what is no gate makes no size too large
-pub no_gate_is_small : (shape : Shape) (s : Network) (c : Call) → gate_of c.command.instr ≡ None → two_of c.command.instr ≡ None → ¬ IsTooLarge shape s c
+pub no_gate_is_small : (shape : Shape) (s : Network) (c : Call) → is_gate (kind_of c.command.instr) ≡ false → ¬ IsTooLarge shape s c
 unfolding IsTooLarge
-no_gate_is_small shape s c one two large =
-    clash (sym (large.0) ∙ ap (λ (o : Option Gate). is_some o || is_some (two_of c.command.instr)) one ∙ ap is_some two)
+no_gate_is_small shape s c none large = clash (sym (large.0) ∙ none)
 
 -- ---- words
--- an instruction that measures needs its own qubit, and nothing else
-pub record IsPlain (i : Instr) : Type 0 where
-  pub operand : is_without_operand i ≡ false
-  pub one : gate_of i ≡ None
-  pub two : two_of i ≡ None
-  pub rotation : rotation_of i ≡ None
-  pub remote : remote_of i ≡ None
-  pub making : is_making i ≡ false
-  pub pair : is_pair i ≡ false
-  pub line : line_of i ≡ None
-
-pub measures_plain : (i : Instr) → is_measurement i ≡ true → IsPlain i
-unfolding is_measurement is_without_operand is_making is_pair gate_of two_of rotation_of remote_of line_of
-measures_plain Measure e = record { operand = refl; one = refl; two = refl; rotation = refl; remote = refl; making = refl; pair = refl; line = refl }
-measures_plain MeasureInplace e = record { operand = refl; one = refl; two = refl; rotation = refl; remote = refl; making = refl; pair = refl; line = refl }
-measures_plain Reset e = record { operand = refl; one = refl; two = refl; rotation = refl; remote = refl; making = refl; pair = refl; line = refl }
-measures_plain Release e = record { operand = refl; one = refl; two = refl; rotation = refl; remote = refl; making = refl; pair = refl; line = refl }
-measures_plain i e = absurd (clash (sym e))
-
--- a measurement makes no size too large
-pub measurement_is_small : (shape : Shape) (s : Network) (c : Call) → is_measurement c.command.instr ≡ true → ¬ IsTooLarge shape s c
-measurement_is_small shape s c e = let plain = measures_plain c.command.instr e in no_gate_is_small shape s c plain.one plain.two
-
-passes : (b : Bool) (f : Fault) (ls : List (Bool × Fault)) → b ≡ false → first_fault ((b, f) ∷ ls) ≡ first_fault ls
-unfolding first_fault
-passes b f ls e = ap (λ t. cond t (Some f) (first_fault ls)) e
-
-none_left : first_fault [] ≡ None
-unfolding first_fault
-none_left = refl
-
 -- a measurement is refused only where its qubit is not held
-pub measurement_refusal : (shape : Shape) (s : Network) (c : Call) → is_measurement c.command.instr ≡ true → is_none (operand s c c.command.qubit) ≡ false → refusal shape s c ≡ None
-unfolding refusal
-measurement_refusal shape s c e held =
-    let i = c.command.instr in
-    let plain = measures_plain i e in
-    passes _ Unknown _ (ap (λ b. not (is_without_operand i) && b) held ∙ ap (λ b. not b && false) plain.operand)
-    ∙ passes _ Unknown _ (ap (λ o. fails o (λ t. is_none (operand s c (t.1)))) plain.two)
-    ∙ passes _ Unsupported _ (ap (λ o. fails o (λ t. t.1 == c.command.qubit)) plain.two)
-    ∙ passes _ Unsupported _ (ap (λ o. fails o (λ step. not (step % 32 == 0))) plain.rotation)
-    ∙ passes _ General _ (ap (λ o. fails o (λ r. remote_node shape c r == c.node)) plain.remote)
-    ∙ passes _ NoQubit _ (ap (λ b. b && not (nat_lt (load s c.node) shape.room)) plain.making)
-    ∙ passes _ NoQubit _ (ap (λ o. fails o (λ r. not (nat_lt (load s (remote_node shape c r)) shape.room))) plain.remote)
-    ∙ passes _ General _ (ap (λ o. fails o (λ t. nat_lt shape.limit (length (united_group s (own_number s c) (other_number s c (t.1)))))) plain.two)
-    ∙ passes _ General _ (ap (λ b. b && nat_lt shape.limit 2) plain.pair)
-    ∙ passes _ Timeout _ (ap (λ o. fails o (λ l. length (queue s c.node c.app l) == 0)) plain.line)
-    ∙ none_left
+measurement_refusal : (shape : Shape) (s : Network) (c : Call) (k : Kind) → is_measurement k ≡ true → is_none (operand s c c.command.qubit) ≡ false → refusal_of shape s c k ≡ None
+unfolding is_measurement refusal_of first_fault takes_qubit second_of remote_of line_of is_inexact is_making is_pair
+measurement_refusal shape s c (Measure after told) e held = ap (λ b. cond b (Some Unknown) None) held
+measurement_refusal shape s c k e held = absurd (clash (sym e))
 
 -- a refused call draws no word
 pub refused_draws_none : (shape : Shape) (s : Network) (c : Call) (f : Fault) → refusal shape s c ≡ Some f → draws s c ≡ false
-unfolding draws
-refused_draws_none shape s c f e = by (is_measurement c.command.instr) (operand s c c.command.qubit) refl refl
+unfolding draws refusal
+refused_draws_none shape s c f e = by (is_measurement (kind_of c.command.instr)) (operand s c c.command.qubit) refl refl
   where
     never : None ≡ Some f → ⊥
     never g = cc
 
-    by : (m : Bool) (o : Option ℕ) → is_measurement c.command.instr ≡ m → operand s c c.command.qubit ≡ o → (m && is_some o) ≡ false
+    by : (m : Bool) (o : Option ℕ) → is_measurement (kind_of c.command.instr) ≡ m → operand s c c.command.qubit ≡ o → (m && is_some o) ≡ false
     by false o i j = refl
     by true None i j = refl
-    by true (Some q) i j = absurd (never (sym (measurement_refusal shape s c i (ap is_none j)) ∙ e))
+    by true (Some q) i j = absurd (never (sym (measurement_refusal shape s c (kind_of c.command.instr) i (ap is_none j)) ∙ e))
 
 -- what measures no qubit draws none
-pub other_draws_none : (s : Network) (c : Call) → is_measurement c.command.instr ≡ false → draws s c ≡ false
+pub other_draws_none : (s : Network) (c : Call) → is_measurement (kind_of c.command.instr) ≡ false → draws s c ≡ false
 unfolding draws
 other_draws_none s c e = ap (λ b. b && is_some (operand s c c.command.qubit)) e
 
 -- a measurement of a qubit that is held draws one
-pub measurement_draws : (s : Network) (c : Call) → is_measurement c.command.instr ≡ true → IsSome (operand s c c.command.qubit) → draws s c ≡ true
+pub measurement_draws : (s : Network) (c : Call) → is_measurement (kind_of c.command.instr) ≡ true → IsSome (operand s c c.command.qubit) → draws s c ≡ true
 unfolding draws
 measurement_draws s c e held = ap (λ b. b && is_some (operand s c c.command.qubit)) e ∙ held
 
 -- ---- entries
-pub legal_entry : (shape : Shape) (s : Network) (c : Call) (w : Option ℕ) (r : CoreReply) → IsCallInRange c → c.node < length shape.places → c.command.instr ≢ Allocate
+pub legal_entry : (shape : Shape) (s : Network) (c : Call) (w : Option ℕ) (r : CoreReply) → IsCallInRange c → c.node < length shape.places → c.command.instr ≢ instr.Allocate
     → ((n : ℕ) → w ≡ Some n → n < 2 ^ 64) → is_some w ≡ draws s c → IsReply shape s c (unwrap_or w 0) r
     → IsLegalEntry shape s (record { call = c; word = w; reply = r })
 legal_entry shape s c w r range node allowed word drawn is = record {
@@ -146,6 +105,16 @@ legal_entry shape s c w r range node allowed word drawn is = record {
   drawn = drawn;
   reply = is;
 }
+
+-- an entry without a word, of a call that is no gate and no measurement
+pub done_legal : (shape : Shape) (s : Network) (c : Call) (k : Kind) → kind_of c.command.instr ≡ k → is_gate k ≡ false → is_measurement k ≡ false → IsCallInRange c → IsAllowedCall shape c
+    → refusal shape s c ≡ None → (r : CoreReply) → r ≡ (effect shape s c 0).reply → IsLegalEntry shape s (record { call = c; word = None; reply = r })
+done_legal shape s c k is gate word range allowed none r e =
+    legal_entry shape s c None r range allowed.node allowed.instr (λ n f. absurd (never n f)) (sym (other_draws_none s c (ap is_measurement is ∙ word)))
+    (reply_done shape s c 0 r none (no_gate_is_small shape s c (ap is_gate is ∙ gate)) e)
+  where
+    never : (n : ℕ) → None ≡ Some n → ⊥
+    never n f = cc
 
 -- any other goes to its effect
 pub advance_done : (shape : Shape) (s : Network) (c : Call) (w : Option ℕ) (r : CoreReply) → is_error r ≡ false → advance shape s (record { call = c; word = w; reply = r }) ≡ (effect shape s c (unwrap_or w 0)).state

@@ -1,5 +1,4 @@
 pub mod Changed
-pub mod FaultLemmas
 pub mod Finished
 pub mod FreeLists
 pub mod Homed
@@ -12,7 +11,6 @@ pub mod Receipts
 pub mod Touched
 pub mod UsedSlots
 pub mod Operands
-pub mod MeasurementKinds
 pub mod MeasurementSteps
 pub mod Outcomes
 pub mod MeasurementActs
@@ -27,11 +25,11 @@ pub mod Journals
 pub mod PairLemmas
 pub mod TwoSteps
 pub mod TwoActs
-pub mod Presence
 pub mod RefusalSteps
 pub mod Vacant
 pub mod MakeSteps
 pub mod SendSteps
 pub mod ReceiveSteps
-pub mod Checked
 pub mod PairSteps
+mod RefusalLines
+pub mod WholeVector

@@ -3,7 +3,8 @@ use Rattle.std.proofs.Common.{ℕ, zero, suc, ◌≡◌, ◌<◌, ◌==◌, nat_
 use Rattle.state_model.specs.Row.{is_listed}
 use Rattle.state_model.proofs.Booleans.{eq_true, or_true}
 use Rattle.network_model.specs.Network.{Network, Shape}
-use Rattle.network_model.specs.Step.{fails, two_of, united_group, refusal, operand, own_number, other_number}
+use Rattle.network_model.specs.Kinds.{kind_of, second_of}
+use Rattle.network_model.specs.Step.{holds_of, united_group, refusal, operand, own_number, other_number}
 use Rattle.cqc_model.specs.declared.Fault.TheVariants.{General}
 use Rattle.state_model.specs.declared.Two.{Two}
 use Rattle.network_model.specs.Factored.{FitsNode, FitsSlot}
@@ -15,8 +16,8 @@ use Rattle.cell_laws.specs.Standing.{IsStanding}
 use Rattle.cell_laws.proofs.Members.{at_home}
 use Rattle.core_cells.specs.Cells.{Cells, CellsFit, register_of}
 use Rattle.factored_core.specs.Ready.{IsReady}
-use Rattle.factored_core.specs.Slots.{IsSeat}
-use Rattle.factored_core.specs.declared.slots.Seat.{Seat}
+use Rattle.factored_core.specs.Slots.{IsSpot}
+use Rattle.factored_core.specs.declared.slots.Spot.{Spot}
 
 -- what stands at a place is listed
 pub listed_at : (xs : List ℕ) (k : ℕ) → k < length xs → is_listed xs (slice_index_or xs k 0) ≡ true
@@ -27,12 +28,8 @@ listed_at (x ∷ xs) (suc k) h = ap (λ b. (x == slice_index_or xs k 0) || b) (l
 
 module _ (shape : Shape) (c : Call) (cs : Cells) (own : Node) (ready : IsReady shape c cs own) (s : Network) (home : ℕ → ℕ) (standing : IsStanding shape s home) (fit : CellsFit shape s home cs) where
   -- a call without a second qubit isn't refused
-  pub none_refuses : two_of c.command.instr ≡ None → refusal shape s c ≡ None
-  none_refuses e = ready.passed s home standing fit ∙ by (two_of c.command.instr) e
-    where
-      by : (o : Option (Two × ℕ)) → o ≡ None → cond (fails o (λ t. nat_lt shape.limit (length (united_group s (own_number s c) (other_number s c (t.1)))))) (Some General) None ≡ None
-      by None e = refl
-      by (Some t) e = cc
+  pub none_refuses : second_of (kind_of c.command.instr) ≡ None → refusal shape s c ≡ None
+  none_refuses e = ready.passed s home standing fit ∙ ap (λ o. cond (holds_of o (λ id. nat_lt shape.limit (length (united_group s (own_number s c) (other_number s c id))))) (Some General) None) e
 
   -- the own node
   pub own_fits : FitsNode s c.node (held_map own) (arrived_map own)
@@ -56,12 +53,12 @@ module _ (shape : Shape) (c : Call) (cs : Cells) (own : Node) (ready : IsReady s
   unfolding other_number
   other_number_is id q e = ap (λ o. unwrap_or o 0) (operand_is id q e)
 
-  -- a seat is at the qubit's home, and the register there fits
-  pub seat_listed : (q : ℕ) (seat : Seat) (at : IsSeat cs q seat) → is_listed (register_of (at.cell).register).qubits q ≡ true
-  seat_listed q seat at = subst (λ (n : ℕ). is_listed (register_of (at.cell).register).qubits n ≡ true) at.number (listed_at (register_of (at.cell).register).qubits seat.place at.within)
+  -- a spot is at the qubit's home, and the register there fits
+  pub spot_listed : (q : ℕ) (spot : Spot) (at : IsSpot cs q spot) → is_listed (register_of (at.cell).register).qubits q ≡ true
+  spot_listed q spot at = subst (λ (n : ℕ). is_listed (register_of (at.cell).register).qubits n ≡ true) at.number (listed_at (register_of (at.cell).register).qubits spot.place at.within)
 
-  pub seat_home : (q : ℕ) (seat : Seat) → IsSeat cs q seat → home q ≡ seat.slot
-  seat_home q seat at = (at_home shape s home seat.slot q (register_of (at.cell).register) (fit.slots seat.slot at.cell at.there) (seat_listed q seat at)).1
+  pub spot_home : (q : ℕ) (spot : Spot) → IsSpot cs q spot → home q ≡ spot.slot
+  spot_home q spot at = (at_home shape s home spot.slot q (register_of (at.cell).register) (fit.slots spot.slot at.cell at.there) (spot_listed q spot at)).1
 
-  pub seat_fits : (q : ℕ) (seat : Seat) (at : IsSeat cs q seat) → FitsSlot shape s home (home q) (register_of (at.cell).register)
-  seat_fits q seat at = subst (λ (t : ℕ). FitsSlot shape s home t (register_of (at.cell).register)) (sym (seat_home q seat at)) (fit.slots seat.slot at.cell at.there)
+  pub spot_fits : (q : ℕ) (spot : Spot) (at : IsSpot cs q spot) → FitsSlot shape s home (home q) (register_of (at.cell).register)
+  spot_fits q spot at = subst (λ (t : ℕ). FitsSlot shape s home t (register_of (at.cell).register)) (sym (spot_home q spot at)) (fit.slots spot.slot at.cell at.there)

@@ -6,15 +6,16 @@ use Rattle.state_model.specs.Registers.{register_vector}
 use Rattle.state_model.proofs.Booleans.{or_false}
 use Rattle.state_model.proofs.SameStates.{same_reflexive}
 use Rattle.amplitude_register.specs.States.{RegisterState, next_value, pair_state}
-use Rattle.cqc_model.specs.declared.Instr.{Instr}
-use Rattle.cqc_model.specs.declared.Instr.TheVariants.{Epr}
+use Rattle.network_model.specs.declared.Kind.{Kind}
 use Rattle.cqc_model.specs.declared.PairInfo.{PairInfo}
 use Rattle.cqc_model.specs.declared.Remote.{Remote}
 use Rattle.network_model.specs.Network.{Network, Shape}
-use Rattle.network_model.specs.Step.{fails, gate_of, two_of, remote_of, remote_node, is_measurement, effect, least_free, pair_info}
+use Rattle.network_model.specs.Kinds.{kind_of, second_of, remote_of, is_gate, is_making, is_measurement}
+use Rattle.network_model.specs.Step.{holds_of, remote_node, effect, least_free, pair_info}
 use Rattle.network_model.specs.History.{advance, is_error}
 use Rattle.network_model.specs.Factored.{FitsNode, FitsPool, FitsSlot, touches_slot, touches_pool, used_slots, homes_step, homes_by, effect_touches_slot, effect_touches_pool}
 use Rattle.network_model.specs.declared.Call.{Call}
+use Rattle.network_model.specs.declared.Kind.TheVariants.{Pair}
 use Rattle.network_model.specs.declared.CoreReply.TheVariants as reply
 use Rattle.network_model.specs.declared.Place.{Place}
 use Rattle.qubit_handles.specs.Handle.{AreDistinct}
@@ -29,26 +30,26 @@ use Rattle.core_cells.specs.declared.cells.NodePair.{NodePair}
 use Rattle.core_cells.specs.declared.cells.PoolPair.{PoolPair}
 use Rattle.core_cells.specs.declared.cells.SlotCell.{SlotCell}
 use Rattle.factored_core.specs.Changes.{Changes, no_changes, changed, with_next_slot, AreNamed, IsStepBy, ChangesFit, IsPreparedStep, register_with}
-use Rattle.factored_core.specs.Needs.{may_touch_pool, other_of}
+use Rattle.factored_core.specs.Needs.{takes_slot, other_of}
 use Rattle.factored_core.specs.Ready.{IsReady}
 use Rattle.factored_core.specs.Replies.{in_new_slot}
 use Rattle.factored_core.specs.Slots.{HasPrepared, IsPreparedAs}
 use Rattle.factored_core.specs.Vacancies.{IsTaken, IsPairTaken, info_of}
-use Rattle.factored_core.specs.declared.transfers.Vacancy.{Vacancy}
-use Rattle.factored_core.specs.declared.transfers.PairVacancy.{PairVacancy}
-use Rattle.factored_core.proofs.Presence.{there_new, this_node}
+use Rattle.factored_core.specs.declared.new_qubits.Vacancy.{Vacancy}
+use Rattle.factored_core.specs.declared.new_qubits.PairVacancy.{PairVacancy}
+use Rattle.core_cells.proofs.Presence.{all_there, maybe_node}
 use Rattle.factored_core.proofs.Changed.{some_there, changed-none, changed-slot_at, node_prepared, pool_prepared, node_still, there_is}
 use Rattle.factored_core.proofs.ChangeLists.{change_nil, change_cons, number_one}
-use Rattle.factored_core.proofs.FaultLemmas.{other_is_remote, other_within}
+use Rattle.factored_core.proofs.RefusalLines.{other_is_remote, other_within}
 use Rattle.factored_core.proofs.GateSteps.{said}
-use Rattle.factored_core.proofs.Legal.{reply_done, legal_entry, other_draws_none, no_gate_is_small}
+use Rattle.factored_core.proofs.Legal.{done_legal}
 use Rattle.factored_core.proofs.Loads.{same_load}
 use Rattle.factored_core.proofs.NodeSteps.{node_paired_own, node_paired_other, reply_paired, pair_info_is}
 use Rattle.factored_core.proofs.Operands.{none_refuses, own_fits}
 use Rattle.factored_core.proofs.PoolSteps.{pool_pair, second_number_is, second_left}
 use Rattle.factored_core.proofs.SendSteps.{other_there, other_fits}
 use Rattle.factored_core.proofs.Touched.{done_touches, with_other, numbers_of, nodes_are}
-use Rattle.factored_core.proofs.Vacant.{own_room, own_there, pool_there, copy_fits, slot_there, vacant_number, vacant_slot, less_numbers, less_slots}
+use Rattle.factored_core.proofs.Vacant.{slot_from_pool, own_room, own_there, pool_there, copy_fits, slot_there, vacant_number, vacant_slot, less_numbers, less_slots}
 
 no_some : {A : Type 0} (a : A) → None ≡ Some a → ⊥
 no_some a e = cc
@@ -59,21 +60,18 @@ number_same m n e = ap (λ o. unwrap_or o n) e
 same_pool : (p q : Pool) → Some p ≡ Some q → p ≡ q
 same_pool p q e = ap (λ o. unwrap_or o q) e
 
--- a new pair can touch the pool
-pub pair_touches : (i : Instr) (r : Remote) → i ≡ Epr r → may_touch_pool i ≡ true
-pair_touches i r is = ap may_touch_pool is ∙ unfold may_touch_pool in refl
+-- a new pair takes a slot
+pub pair_touches : (k : Kind) (r : Remote) → k ≡ Pair r → takes_slot k ≡ true
+unfolding takes_slot is_making
+pair_touches k r is = ap takes_slot is
 
--- a copy that was made after another read
-pub copied_along : (cs before : Cells) → before ≡ cs → (k : ℕ) (to : Node) → ((w : NodePair) → before.node k ≡ Some w → to ≡ w.now) → (w : NodePair) → cs.node k ≡ Some w → to ≡ w.now
-copied_along cs before same k to copied w e = copied w (ap (λ (d : Cells). d.node k) same ∙ e)
-
-module _ (shape : Shape) (c : Call) (cs : Cells) (own : Node) (ready : IsReady shape c cs own) (r : Remote) (is : c.command.instr ≡ Epr r)
+module _ (shape : Shape) (c : Call) (cs : Cells) (own : Node) (ready : IsReady shape c cs own) (r : Remote) (is : kind_of c.command.instr ≡ Pair r)
     (other : ℕ) (there : other_of shape c ≡ Some other) (to : Node) (copied_to : (w : NodePair) → cs.node other ≡ Some w → to ≡ w.now)
     (p : Pool) (copied : (w : PoolPair) → cs.pool ≡ Some w → p ≡ w.now) where
-  touch : may_touch_pool c.command.instr ≡ true
-  touch = pair_touches c.command.instr r is
+  touch : takes_slot (kind_of c.command.instr) ≡ true
+  touch = pair_touches (kind_of c.command.instr) r is
 
-  remote_is : remote_of c.command.instr ≡ Some r
+  remote_is : remote_of (kind_of c.command.instr) ≡ Some r
   remote_is = ap remote_of is ∙ unfold remote_of in refl
 
   away : (remote_node shape c r ≡ other) × (other ≢ c.node)
@@ -103,15 +101,6 @@ module _ (shape : Shape) (c : Call) (cs : Cells) (own : Node) (ready : IsReady s
     abbrev paired : Changes
     paired = record { nodes = with_other c.node given (Some other) half; pool = Some after; slots = (v.first.slot, a) ∷ [] }
 
-    no_gate : gate_of c.command.instr ≡ None
-    no_gate = ap gate_of is ∙ unfold gate_of in refl
-
-    no_second : two_of c.command.instr ≡ None
-    no_second = ap two_of is ∙ unfold two_of in refl
-
-    no_word : is_measurement c.command.instr ≡ false
-    no_word = ap is_measurement is ∙ unfold is_measurement in refl
-
     module _ (s : Network) (home : ℕ → ℕ) (standing : IsStanding shape s home) (fit : CellsFit shape s home cs) where
       free_fits : FitsPool shape s home p.numbers p.slots p.pairs
       free_fits = copy_fits shape c cs own ready touch p copied s home fit
@@ -136,53 +125,53 @@ module _ (shape : Shape) (c : Call) (cs : Cells) (own : Node) (ready : IsReady s
       reply_is : (effect shape s c 0).reply ≡ reply.Pair id info
       reply_is = reply_paired shape s c 0 own here r is ∙ ap (λ i. reply.Pair i (pair_info shape s c r)) (sym id_is) ∙ ap (reply.Pair id) (sym info_same)
 
-      slot_is : (t : ℕ) → effect_touches_slot s home c t c.command.instr ≡ (v.first.slot == t)
+      slot_is : (t : ℕ) → effect_touches_slot s home c t (kind_of c.command.instr) ≡ (v.first.slot == t)
       slot_is t = ap (effect_touches_slot s home c t) is ∙ unfold effect_touches_slot in (ap (λ n. n == t) (sym slot))
 
-      touches : effect_touches_pool s c c.command.instr ≡ true
-      touches = ap (effect_touches_pool s c) is ∙ unfold effect_touches_pool in refl
+      touches : effect_touches_pool s c (kind_of c.command.instr) ≡ true
+      touches = ap (effect_touches_pool s c) is ∙ unfold effect_touches_pool is_making in refl
 
-      pool_fits : FitsPool shape ((effect shape s c 0).state) (homes_by s home c c.command.instr) after.numbers after.slots after.pairs
+      pool_fits : FitsPool shape ((effect shape s c 0).state) (homes_by s home c (kind_of c.command.instr)) after.numbers after.slots after.pairs
       pool_fits =
-          subst (λ (n : ℕ). FitsPool shape ((effect shape s c 0).state) (homes_by s home c c.command.instr) after.numbers after.slots n) (sym taken.pairs)
+          subst (λ (n : ℕ). FitsPool shape ((effect shape s c 0).state) (homes_by s home c (kind_of c.command.instr)) after.numbers after.slots n) (sym taken.pairs)
           (pool_pair shape s home c 0 p.numbers p.slots p.pairs standing.sound standing.housed free_fits r is (taken.mid).numbers after.numbers after.slots
           (less_numbers shape c cs own ready touch p copied v.first taken.mid taken.first s home standing fit)
           (λ q. taken.numbers q ∙ ap (λ n. is_listed (taken.mid).numbers q && not (q == n)) second)
           (λ t. ap (λ l. is_listed l t) taken.slots ∙ less_slots shape c cs own ready touch p copied v.first taken.mid taken.first s home standing fit t))
 
-      slot_fits : FitsSlot shape ((effect shape s c 0).state) (homes_by s home c c.command.instr) v.first.slot (register_with shape.limit a)
+      slot_fits : FitsSlot shape ((effect shape s c 0).state) (homes_by s home c (kind_of c.command.instr)) v.first.slot (register_with shape.limit a)
       slot_fits =
-          subst (λ (t : ℕ). FitsSlot shape ((effect shape s c 0).state) (homes_by s home c c.command.instr) t (register_with shape.limit a)) (sym slot)
-          (subst (λ (n : ℕ). FitsSlot shape ((effect shape s c 0).state) (homes_by s home c c.command.instr) (least_free (used_slots s.live home)) (register_with shape.limit (pair_state n v.second))) (sym number)
-          (subst (λ (n : ℕ). FitsSlot shape ((effect shape s c 0).state) (homes_by s home c c.command.instr) (least_free (used_slots s.live home)) (register_with shape.limit (pair_state (least_free s.live) n))) (sym second)
+          subst (λ (t : ℕ). FitsSlot shape ((effect shape s c 0).state) (homes_by s home c (kind_of c.command.instr)) t (register_with shape.limit a)) (sym slot)
+          (subst (λ (n : ℕ). FitsSlot shape ((effect shape s c 0).state) (homes_by s home c (kind_of c.command.instr)) (least_free (used_slots s.live home)) (register_with shape.limit (pair_state n v.second))) (sym number)
+          (subst (λ (n : ℕ). FitsSlot shape ((effect shape s c 0).state) (homes_by s home c (kind_of c.command.instr)) (least_free (used_slots s.live home)) (register_with shape.limit (pair_state (least_free s.live) n))) (sym second)
           (pair_step shape s home c standing 0 r is pair_list (same_reflexive (register_vector (least_free s.live ∷ least_free (least_free s.live ∷ s.live) ∷ []) pair_list)))))
 
       made : ChangesFit shape s home (said c (reply.Pair id info)) paired
       unfolding advance is_error homes_step touches_slot touches_pool
       made = record {
-        nodes_touched = λ m. done_touches shape c m None (reply.Pair id info) refl ∙ ap (λ (o : Option ℕ). (c.node == m) || fails o (λ n. n == m)) there ∙ numbers_of c.node given (Some other) half m;
+        nodes_touched = λ m. done_touches shape c m None (reply.Pair id info) refl ∙ ap (λ (o : Option ℕ). (c.node == m) || holds_of o (λ n. n == m)) there ∙ numbers_of c.node given (Some other) half m;
         pool_touched = touches;
         slots_touched = λ t. slot_is t ∙ sym (number_one v.first.slot a t);
         nodes = nodes_are (λ m n. FitsNode ((effect shape s c 0).state) m (held_map n) (arrived_map n)) c.node given (Some other) half
             (node_paired_own shape s c 0 own here r is (λ e. (away.1) (sym (away.0) ∙ e)) id v.first.number id_is number)
             (λ n e. subst (λ (k : ℕ). FitsNode ((effect shape s c 0).state) k (held_map half) (arrived_map half)) (number_same other n e)
             (node_paired_other shape s c 0 other to (other_fits shape c cs own ready other there to copied_to s home fit) r (away.0) (away.1) is v.second info second info_same));
-        pool = λ q e. subst (λ (x : Pool). FitsPool shape ((effect shape s c 0).state) (homes_by s home c c.command.instr) x.numbers x.slots x.pairs) (same_pool after q e) pool_fits;
-        slots = change_cons (λ t b. FitsSlot shape ((effect shape s c 0).state) (homes_by s home c c.command.instr) t (register_with shape.limit b)) v.first.slot a []
+        pool = λ q e. subst (λ (x : Pool). FitsPool shape ((effect shape s c 0).state) (homes_by s home c (kind_of c.command.instr)) x.numbers x.slots x.pairs) (same_pool after q e) pool_fits;
+        slots = change_cons (λ t b. FitsSlot shape ((effect shape s c 0).state) (homes_by s home c (kind_of c.command.instr)) t (register_with shape.limit b)) v.first.slot a []
             slot_fits
-            (change_nil (λ t b. FitsSlot shape ((effect shape s c 0).state) (homes_by s home c c.command.instr) t (register_with shape.limit b)));
+            (change_nil (λ t b. FitsSlot shape ((effect shape s c 0).state) (homes_by s home c (kind_of c.command.instr)) t (register_with shape.limit b)));
       }
 
     pair_done : IsStepBy shape cs paired (said c (reply.Pair id info))
+    unfolding is_gate is_measurement second_of
     pair_done s home standing fit = (
-      legal_entry shape s c None (reply.Pair id info) ready.range (ready.allowed).node (ready.allowed).instr (λ n e. absurd (no_some n e)) (sym (other_draws_none s c no_word))
-          (reply_done shape s c 0 (reply.Pair id info) (none_refuses shape c cs own ready s home standing fit no_second) (no_gate_is_small shape s c no_gate no_second) (sym (reply_is s home standing fit))),
+      done_legal shape s c (Pair r) is refl refl ready.range ready.allowed (none_refuses shape c cs own ready s home standing fit (ap second_of is)) (reply.Pair id info) (sym (reply_is s home standing fit)),
       made s home standing fit,
     )
 
     named_pair : AreNamed (in_new_slot c (reply.Pair id info) (Some other) v.first.slot) paired
     named_pair = record {
-      nodes = numbers_of c.node given (Some other) half;
+      nodes = λ m. ap (λ b. (c.node == m) || b) (maybe_node (Some other) m) ∙ numbers_of c.node given (Some other) half m;
       pool = refl;
       slots = λ u. or_false (v.first.slot == u) ∙ sym (number_one v.first.slot a u);
     }
@@ -235,7 +224,9 @@ module _ (shape : Shape) (c : Call) (cs : Cells) (own : Node) (ready : IsReady s
                     k.1.0 ∙ ap (λ (b : Amplitudes). changed cs (record { nodes = with_other c.node given (Some other) half; pool = Some after; slots = (v.first.slot, b) ∷ [] }))
                     (ap (λ (x : RegisterState). next_value x.next) (k.1.1));
                 named = named_pair;
-                there = there_new cs (record { call = c; word = None; reply = reply.Pair id info }) (Some other) v.first.slot (own_there shape c cs own ready)
-                    (λ n i. this_node cs other n (other_there shape c cs own ready other there) i) (pool_there shape c cs own ready touch) (some_there (cs.slot v.first.slot) (w.0) (w.1));
+                there = all_there cs _ (
+                  own_there shape c cs own ready,
+                  (some_there (cs.slot v.first.slot) (w.0) (w.1), (pool_there shape c cs own ready touch, (other_there shape c cs own ready other there, tt))),
+                );
                 step = pair_done;
               }

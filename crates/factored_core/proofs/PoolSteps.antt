@@ -7,13 +7,16 @@ use Rattle.state_model.specs.declared.Two.{Two}
 use Rattle.state_model.specs.declared.Two.TheVariants as twos
 use Rattle.state_model.proofs.Booleans.{clash, both_true, eq_true, eq_of, ne_of, or_false, or_false_left, or_false_right, eq_flip}
 use Rattle.state_model.proofs.Numbers.{is_listed-without, was_listed}
-use Rattle.cqc_model.specs.declared.Instr.{Instr}
-use Rattle.cqc_model.specs.declared.Instr.TheVariants.{New, Measure, MeasureInplace, Reset, Epr, Cnot, Cphase, Release}
+use Rattle.network_model.specs.declared.Kind.{Kind}
 use Rattle.cqc_model.specs.declared.Remote.{Remote}
 use Rattle.network_model.specs.Network.{Network, Shape, members, group_of, load, IsSound}
-use Rattle.network_model.specs.Step.{effect, effect_of, quiet, after_two, taken_out, left_as, two_of, own_number, other_number, least_free}
+use Rattle.network_model.specs.Kinds.{kind_of}
+use Rattle.network_model.specs.Step.{effect, effect_of, quiet, after_two, measured, taken_out, left_as, own_number, other_number, least_free}
+use Rattle.cell_laws.proofs.StepSlots.{Leaves}
 use Rattle.network_model.specs.Factored.{FitsPool, IsHoused, homes_by, used_slots, moved, gathered, parted}
+use Rattle.network_model.specs.declared.After.TheVariants.{TakenOut}
 use Rattle.network_model.specs.declared.Call.{Call}
+use Rattle.network_model.specs.declared.Kind.TheVariants.{Two as TwoGate, Measure, Make, Pair}
 use Rattle.network_model.proofs.Counting.{count-filter}
 use Rattle.network_model.proofs.Least.{least_free_new}
 use Rattle.network_model.proofs.Added.{least_free_high}
@@ -137,20 +140,20 @@ module _ (shape : Shape) (s : Network) (home : ℕ → ℕ) (c : Call) (word : �
 
   -- the pool fits the state after the call's effect
   abbrev pub Fits : List ℕ → List ℕ → ℕ → Type 0
-  Fits numbers' slots' pairs' = FitsPool shape ((effect shape s c word).state) (homes_by s home c c.command.instr) numbers' slots' pairs'
+  Fits numbers' slots' pairs' = FitsPool shape ((effect shape s c word).state) (homes_by s home c (kind_of c.command.instr)) numbers' slots' pairs'
 
-  along : (i : Instr) → c.command.instr ≡ i → (numbers' slots' : List ℕ) (pairs' : ℕ) → FitsPool shape ((effect_of shape s c word i).state) (homes_by s home c i) numbers' slots' pairs' → Fits numbers' slots' pairs'
+  along : (k : Kind) → kind_of c.command.instr ≡ k → (numbers' slots' : List ℕ) (pairs' : ℕ) → FitsPool shape ((effect_of shape s c word k).state) (homes_by s home c k) numbers' slots' pairs' → Fits numbers' slots' pairs'
   unfolding effect
-  along i is numbers' slots' pairs' h = subst (λ j. FitsPool shape ((effect_of shape s c word j).state) (homes_by s home c j) numbers' slots' pairs') (sym is) h
+  along k is numbers' slots' pairs' h = subst (λ j. FitsPool shape ((effect_of shape s c word j).state) (homes_by s home c j) numbers' slots' pairs') (sym is) h
 
   -- a new qubit takes a number and a slot
-  pub pool_new : c.command.instr ≡ New → (numbers' slots' : List ℕ)
+  pub pool_new : kind_of c.command.instr ≡ Make → (numbers' slots' : List ℕ)
       → ((q : ℕ) → is_listed numbers' q ≡ (is_listed numbers q && not (q == least_free s.live)))
       → ((t : ℕ) → is_listed slots' t ≡ (is_listed slots t && not (t == least_free (used_slots s.live home))))
       → Fits numbers' slots' pairs
-  pool_new is numbers' slots' less_numbers less_slots = along New is numbers' slots' pairs made_new
+  pool_new is numbers' slots' less_numbers less_slots = along Make is numbers' slots' pairs made_new
     where
-      made_new : FitsPool shape ((effect_of shape s c word New).state) (homes_by s home c New) numbers' slots' pairs
+      made_new : FitsPool shape ((effect_of shape s c word Make).state) (homes_by s home c Make) numbers' slots' pairs
       made_new = unfold effect_of homes_by in (record {
         numbers_free = one_taken bound s.live numbers fits.numbers_free (least_free s.live) (s.live ++ least_free s.live ∷ []) numbers' less_numbers (listed_with s.live (least_free s.live));
         slots_free = one_taken bound (used_slots s.live home) slots fits.slots_free (least_free (used_slots s.live home)) _ slots' less_slots
@@ -159,12 +162,12 @@ module _ (shape : Shape) (s : Network) (home : ℕ → ℕ) (c : Call) (word : �
       })
 
   -- a pair takes two numbers and a slot
-  pub pool_pair : (r : Remote) → c.command.instr ≡ Epr r → (mid numbers' slots' : List ℕ)
+  pub pool_pair : (r : Remote) → kind_of c.command.instr ≡ Pair r → (mid numbers' slots' : List ℕ)
       → ((q : ℕ) → is_listed mid q ≡ (is_listed numbers q && not (q == least_free s.live)))
       → ((q : ℕ) → is_listed numbers' q ≡ (is_listed mid q && not (q == least_free (least_free s.live ∷ s.live))))
       → ((t : ℕ) → is_listed slots' t ≡ (is_listed slots t && not (t == least_free (used_slots s.live home))))
       → Fits numbers' slots' ((pairs + 1) % 2 ^ 32)
-  pool_pair r is mid numbers' slots' less_first less_second less_slots = along (Epr r) is numbers' slots' ((pairs + 1) % 2 ^ 32) made_pair
+  pool_pair r is mid numbers' slots' less_first less_second less_slots = along (Pair r) is numbers' slots' ((pairs + 1) % 2 ^ 32) made_pair
     where
       second_new : is_listed (s.live ++ least_free s.live ∷ []) (least_free (least_free s.live ∷ s.live)) ≡ false
       second_new = new_beside (least_free s.live) s.live (least_free (least_free s.live ∷ s.live)) (least_free_new (least_free s.live ∷ s.live))
@@ -189,7 +192,7 @@ module _ (shape : Shape) (s : Network) (home : ℕ → ℕ) (c : Call) (word : �
           ap (λ l. is_listed l q) (sym (append_assoc s.live (least_free s.live ∷ []) (least_free (least_free s.live ∷ s.live) ∷ [])))
           ∙ listed_with (s.live ++ least_free s.live ∷ []) (least_free (least_free s.live ∷ s.live)) q
 
-      made_pair : FitsPool shape ((effect_of shape s c word (Epr r)).state) (homes_by s home c (Epr r)) numbers' slots' ((pairs + 1) % 2 ^ 32)
+      made_pair : FitsPool shape ((effect_of shape s c word (Pair r)).state) (homes_by s home c (Pair r)) numbers' slots' ((pairs + 1) % 2 ^ 32)
       made_pair = unfold effect_of homes_by in (record {
         numbers_free = one_taken bound (s.live ++ least_free s.live ∷ []) mid
             (one_taken bound s.live numbers fits.numbers_free (least_free s.live) (s.live ++ least_free s.live ∷ []) mid less_first (listed_with s.live (least_free s.live)))
@@ -199,19 +202,10 @@ module _ (shape : Shape) (s : Network) (home : ℕ → ℕ) (c : Call) (word : �
       })
 
   -- ---- a qubit that leaves
-  module _ (live_q : is_listed s.live (own_number s c) ≡ true) (is : (c.command.instr ≡ Measure) ⊎ (c.command.instr ≡ Release)) where
+  module _ (live_q : is_listed s.live (own_number s c) ≡ true) (told : Bool) (is : kind_of c.command.instr ≡ Measure TakenOut told) where
     removed : (numbers' slots' : List ℕ) → FitsPool shape (taken_out s c word) home numbers' slots' pairs → Fits numbers' slots' pairs
-    removed numbers' slots' h = by is
-      where
-        at_measure : FitsPool shape ((effect_of shape s c word Measure).state) (homes_by s home c Measure) numbers' slots' pairs
-        at_measure = unfold effect_of homes_by in h
-
-        at_release : FitsPool shape ((effect_of shape s c word Release).state) (homes_by s home c Release) numbers' slots' pairs
-        at_release = unfold effect_of homes_by quiet in h
-
-        by : (c.command.instr ≡ Measure) ⊎ (c.command.instr ≡ Release) → Fits numbers' slots' pairs
-        by (inl e) = along Measure e numbers' slots' pairs at_measure
-        by (inr e) = along Release e numbers' slots' pairs at_release
+    unfolding effect_of homes_by measured
+    removed numbers' slots' h = along (Measure TakenOut told) is numbers' slots' pairs h
 
     numbers_back : (numbers' : List ℕ) → ((q : ℕ) → is_listed numbers' q ≡ (is_listed numbers q || (q == own_number s c))) → AreFree bound (without s.live (own_number s c)) numbers'
     numbers_back numbers' more = one_freed bound s.live numbers fits.numbers_free (own_number s c) (sound.live_numbers (own_number s c) live_q) (without s.live (own_number s c)) numbers' more (is_listed-without s.live (own_number s c))
@@ -245,19 +239,12 @@ module _ (shape : Shape) (s : Network) (home : ℕ → ℕ) (c : Call) (word : �
         })
 
   -- ---- a qubit that gets a value of its own
-  module _ (live_q : is_listed s.live (own_number s c) ≡ true) (is : (c.command.instr ≡ MeasureInplace) ⊎ (c.command.instr ≡ Reset)) where
-    refreshed : (slots' : List ℕ) → ((b : Bool) → FitsPool shape (left_as s c word b) (parted s home (own_number s c)) numbers slots' pairs) → Fits numbers slots' pairs
-    refreshed slots' h = by is
-      where
-        at_measure : FitsPool shape ((effect_of shape s c word MeasureInplace).state) (homes_by s home c MeasureInplace) numbers slots' pairs
-        at_measure = unfold effect_of homes_by in h _
-
-        at_reset : FitsPool shape ((effect_of shape s c word Reset).state) (homes_by s home c Reset) numbers slots' pairs
-        at_reset = unfold effect_of homes_by quiet in h false
-
-        by : (c.command.instr ≡ MeasureInplace) ⊎ (c.command.instr ≡ Reset) → Fits numbers slots' pairs
-        by (inl e) = along MeasureInplace e numbers slots' pairs at_measure
-        by (inr e) = along Reset e numbers slots' pairs at_reset
+  module _ (live_q : is_listed s.live (own_number s c) ≡ true) (k : Kind) (v : Bool) (is : kind_of c.command.instr ≡ k) (does : Leaves s home c word k v) where
+    refreshed : (slots' : List ℕ) → FitsPool shape (left_as s c word v) (parted s home (own_number s c)) numbers slots' pairs → Fits numbers slots' pairs
+    refreshed slots' h =
+        along k is numbers slots' pairs
+        (subst (λ (t : Network). FitsPool shape t (homes_by s home c k) numbers slots' pairs) (sym (does.state_is shape))
+        (subst (λ (f : ℕ → ℕ). FitsPool shape (left_as s c word v) f numbers slots' pairs) (sym does.homes_are) h))
 
     -- in a group of its own, and nothing is taken
     pub pool_refreshed_alone : (length (group_of s (own_number s c)) == 1) ≡ true → Fits numbers slots pairs
@@ -269,8 +256,8 @@ module _ (shape : Shape) (s : Network) (home : ℕ → ℕ) (c : Call) (word : �
         same : used_slots s.live (parted s home (own_number s c)) ≡ used_slots s.live home
         same = unfold used_slots in map_same (parted s home (own_number s c)) home s.live (λ x i. stays x)
 
-        at : (b : Bool) → FitsPool shape (left_as s c word b) (parted s home (own_number s c)) numbers slots pairs
-        at b = unfold left_as in (record {
+        at : FitsPool shape (left_as s c word v) (parted s home (own_number s c)) numbers slots pairs
+        at = unfold left_as in (record {
           numbers_free = fits.numbers_free;
           slots_free = λ t. fits.slots_free t ∙ ap (λ l. nat_lt t bound && not (is_listed l t)) (sym same);
           made = fits.made;
@@ -288,8 +275,8 @@ module _ (shape : Shape) (s : Network) (home : ℕ → ℕ) (c : Call) (word : �
         same : used_slots s.live (parted s home (own_number s c)) ≡ used_slots s.live (moved home (own_number s c) (least_free (used_slots s.live home)))
         same = unfold used_slots in map_same (parted s home (own_number s c)) (moved home (own_number s c) (least_free (used_slots s.live home))) s.live (λ x i. moves x)
 
-        at : (b : Bool) → FitsPool shape (left_as s c word b) (parted s home (own_number s c)) numbers slots' pairs
-        at b = let r = beside_at_home shape s home sound housed (own_number s c) live_q more in unfold left_as in (record {
+        at : FitsPool shape (left_as s c word v) (parted s home (own_number s c)) numbers slots' pairs
+        at = let r = beside_at_home shape s home sound housed (own_number s c) live_q more in unfold left_as in (record {
           numbers_free = fits.numbers_free;
           slots_free = one_taken bound (used_slots s.live home) slots fits.slots_free (least_free (used_slots s.live home)) (used_slots s.live (parted s home (own_number s c))) slots' less
               (λ t. ap (λ l. is_listed l t) same ∙ used_moved_beside s.live home (own_number s c) (r.0) (r.1) (r.2) (r.3) (least_free (used_slots s.live home)) live_q t);
@@ -297,23 +284,12 @@ module _ (shape : Shape) (s : Network) (home : ℕ → ℕ) (c : Call) (word : �
         })
 
   -- ---- two groups that become one: the other's slot is free again
-  two_fits : (g : Two) (id : ℕ) (slots' : List ℕ) → FitsPool shape ((after_two s c g id).state) (gathered home (own_number s c) (other_number s c id)) numbers slots' pairs
-      → (i : Instr) → two_of i ≡ Some (g, id) → FitsPool shape ((effect_of shape s c word i).state) (homes_by s home c i) numbers slots' pairs
-  unfolding two_of effect_of homes_by
-  two_fits g id slots' h (Cnot k) e =
-      let same : ◌≡◌ {A = Two × ℕ} (twos.Cnot, k) (g, id) = cc in
-      subst (λ (t : Two × ℕ). FitsPool shape ((after_two s c (t.0) (t.1)).state) (gathered home (own_number s c) (other_number s c (t.1))) numbers slots' pairs) (sym same) h
-  two_fits g id slots' h (Cphase k) e =
-      let same : ◌≡◌ {A = Two × ℕ} (twos.Cphase, k) (g, id) = cc in
-      subst (λ (t : Two × ℕ). FitsPool shape ((after_two s c (t.0) (t.1)).state) (gathered home (own_number s c) (other_number s c (t.1))) numbers slots' pairs) (sym same) h
-  two_fits g id slots' h i e = cc
-
-  pub pool_united : (g : Two) (id : ℕ) → two_of c.command.instr ≡ Some (g, id)
+  pub pool_united : (g : Two) (id : ℕ) → kind_of c.command.instr ≡ TwoGate g id
       → is_listed s.live (own_number s c) ≡ true → is_listed s.live (other_number s c id) ≡ true
       → (s.label (own_number s c) == s.label (other_number s c id)) ≡ false → home (other_number s c id) < bound → (slots' : List ℕ)
       → ((t : ℕ) → is_listed slots' t ≡ (is_listed slots t || (t == home (other_number s c id))))
       → Fits numbers slots' pairs
-  pool_united g id is live_p live_q apart within slots' more = along c.command.instr refl numbers slots' pairs (two_fits g id slots' at c.command.instr is)
+  pool_united g id is live_p live_q apart within slots' more = along (TwoGate g id) is numbers slots' pairs (unfold effect_of homes_by in at)
     where
       at : FitsPool shape ((after_two s c g id).state) (gathered home (own_number s c) (other_number s c id)) numbers slots' pairs
       at = unfold after_two quiet in (record {

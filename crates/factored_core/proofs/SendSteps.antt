@@ -1,14 +1,14 @@
 -- A qubit that is sent goes from its holder's handles to the end of the other node's queue, and that is the step of the call.
 use Rattle.std.proofs.Common.{ℕ, ◌≡◌, ◌≢◌, ◌<◌, ◌≤◌, ◌==◌, false, ◌||◌, Option, Some, None, IsSome, unwrap_or, refl, sym, ap, subst, ◌∙◌, arith}
 use Rattle.std.specs.Prelude.{IsSomeAnd}
-use Rattle.cqc_model.specs.declared.Instr.{Instr}
-use Rattle.cqc_model.specs.declared.Instr.TheVariants.{Send}
 use Rattle.cqc_model.specs.declared.Remote.{Remote}
 use Rattle.network_model.specs.Network.{Network, Shape}
-use Rattle.network_model.specs.Step.{fails, gate_of, two_of, remote_of, remote_node, is_measurement, effect, effect_of, quiet}
+use Rattle.network_model.specs.Kinds.{kind_of, second_of, remote_of, is_gate, is_making, is_measurement}
+use Rattle.network_model.specs.Step.{holds_of, remote_node, effect, effect_of, quiet}
 use Rattle.network_model.specs.History.{advance, is_error}
 use Rattle.network_model.specs.Factored.{FitsNode, touches_slot, touches_pool, homes_step, effect_touches_slot, effect_touches_pool}
 use Rattle.network_model.specs.declared.Call.{Call}
+use Rattle.network_model.specs.declared.Kind.TheVariants.{Send}
 use Rattle.network_model.specs.declared.CoreReply.TheVariants as reply
 use Rattle.qubit_handles.specs.Handle.{number_of}
 use Rattle.virtual_node.specs.Node.{Node, load_of, held_map, arrived_map, without_held, with_arrival}
@@ -20,11 +20,11 @@ use Rattle.factored_core.specs.Changes.{changed, IsStepBy, ChangesFit, IsPrepare
 use Rattle.factored_core.specs.Needs.{other_of}
 use Rattle.factored_core.specs.Ready.{IsReady}
 use Rattle.factored_core.specs.Replies.{in_nodes}
-use Rattle.factored_core.proofs.Presence.{there_nodes, this_node}
+use Rattle.core_cells.proofs.Presence.{all_there}
 use Rattle.factored_core.proofs.Changed.{there_is, node_still}
-use Rattle.factored_core.proofs.FaultLemmas.{other_is_remote}
+use Rattle.factored_core.proofs.RefusalLines.{other_is_remote}
 use Rattle.factored_core.proofs.GateSteps.{said}
-use Rattle.factored_core.proofs.Legal.{reply_done, legal_entry, other_draws_none, no_gate_is_small}
+use Rattle.factored_core.proofs.Legal.{done_legal}
 use Rattle.factored_core.proofs.NodeSteps.{node_sent_own, node_sent_other}
 use Rattle.factored_core.proofs.Operands.{none_refuses, own_fits, own_number_is}
 use Rattle.factored_core.proofs.Touched.{done_touches, of_nodes, numbers_of, nodes_are, named_in_nodes, one_node, two_nodes}
@@ -46,29 +46,10 @@ module _ (shape : Shape) (c : Call) (cs : Cells) (own : Node) (ready : IsReady s
     other_fits s home fit =
         subst (λ (n : Node). FitsNode s other (held_map n) (arrived_map n)) (sym (copied (other_is.0) (other_is.1))) (fit.nodes other (other_is.0) (other_is.1))
 
-    -- its room
-    pub other_load : ((w : NodePair) → cs.node other ≡ Some w → load_of w.now < shape.room) → load_of to < shape.room
-    other_load room = subst (λ (n : Node). load_of n < shape.room) (sym (copied (other_is.0) (other_is.1))) (room (other_is.0) (other_is.1))
-
-    pub other_room : ((w : NodePair) → cs.node other ≡ Some w → load_of w.now < shape.room) → (m : ℕ) → m ≡ shape.room → m ≤ 16 → load_of to < 16
-    other_room room m is most = below (load_of to) m 16 (subst (λ (k : ℕ). load_of to < k) (sym is) (other_load room)) most
-      where
-        below : (a b k : ℕ) → a < b → b ≤ k → a < k
-        below a b k h i = omega arith
-
 -- ---- a qubit is sent
-module _ (shape : Shape) (c : Call) (cs : Cells) (own : Node) (ready : IsReady shape c cs own) (r : Remote) (is : c.command.instr ≡ Send r)
+module _ (shape : Shape) (c : Call) (cs : Cells) (own : Node) (ready : IsReady shape c cs own) (r : Remote) (is : kind_of c.command.instr ≡ Send r)
     (other : ℕ) (there : other_of shape c ≡ Some other) (to : Node) (copied : (w : NodePair) → cs.node other ≡ Some w → to ≡ w.now) where
-  no_gate : gate_of c.command.instr ≡ None
-  no_gate = ap gate_of is ∙ unfold gate_of in refl
-
-  no_second : two_of c.command.instr ≡ None
-  no_second = ap two_of is ∙ unfold two_of in refl
-
-  no_word : is_measurement c.command.instr ≡ false
-  no_word = ap is_measurement is ∙ unfold is_measurement in refl
-
-  remote_is : remote_of c.command.instr ≡ Some r
+  remote_is : remote_of (kind_of c.command.instr) ≡ Some r
   remote_is = ap remote_of is ∙ unfold remote_of in refl
 
   away : (remote_node shape c r ≡ other) × (other ≢ c.node)
@@ -84,13 +65,13 @@ module _ (shape : Shape) (c : Call) (cs : Cells) (own : Node) (ready : IsReady s
     module _ (s : Network) (home : ℕ → ℕ) (standing : IsStanding shape s home) (fit : CellsFit shape s home cs) where
       reply_is : (effect shape s c 0).reply ≡ reply.Silent
       unfolding effect
-      reply_is = ap (λ (i : Instr). (effect_of shape s c 0 i).reply) is ∙ unfold effect_of quiet in refl
+      reply_is = ap (λ k. (effect_of shape s c 0 k).reply) is ∙ unfold effect_of quiet in refl
 
-      no_slot : (t : ℕ) → effect_touches_slot s home c t c.command.instr ≡ false
+      no_slot : (t : ℕ) → effect_touches_slot s home c t (kind_of c.command.instr) ≡ false
       no_slot t = ap (effect_touches_slot s home c t) is ∙ unfold effect_touches_slot in refl
 
-      no_pool : effect_touches_pool s c c.command.instr ≡ false
-      no_pool = ap (effect_touches_pool s c) is ∙ unfold effect_touches_pool is_measurement in refl
+      no_pool : effect_touches_pool s c (kind_of c.command.instr) ≡ false
+      no_pool = ap (effect_touches_pool s c) is ∙ unfold effect_touches_pool is_making is_measurement in refl
 
       number : (m n : ℕ) → Some m ≡ Some n → m ≡ n
       number m n e = ap (λ o. unwrap_or o n) e
@@ -98,7 +79,7 @@ module _ (shape : Shape) (c : Call) (cs : Cells) (own : Node) (ready : IsReady s
       moved : ChangesFit shape s home (said c reply.Silent) (of_nodes c.node left (Some other) sent)
       unfolding advance is_error homes_step touches_slot touches_pool
       moved = record {
-        nodes_touched = λ m. done_touches shape c m None reply.Silent refl ∙ ap (λ (o : Option ℕ). (c.node == m) || fails o (λ n. n == m)) there ∙ numbers_of c.node left (Some other) sent m;
+        nodes_touched = λ m. done_touches shape c m None reply.Silent refl ∙ ap (λ (o : Option ℕ). (c.node == m) || holds_of o (λ n. n == m)) there ∙ numbers_of c.node left (Some other) sent m;
         pool_touched = no_pool;
         slots_touched = no_slot;
         nodes = nodes_are (λ m n. FitsNode ((effect shape s c 0).state) m (held_map n) (arrived_map n)) c.node left (Some other) sent
@@ -110,9 +91,9 @@ module _ (shape : Shape) (c : Call) (cs : Cells) (own : Node) (ready : IsReady s
       }
 
     sent_done : IsStepBy shape cs (of_nodes c.node left (Some other) sent) (said c reply.Silent)
+    unfolding is_gate is_measurement second_of
     sent_done s home standing fit = (
-      legal_entry shape s c None reply.Silent ready.range (ready.allowed).node (ready.allowed).instr (λ n e. absurd (no_some n e)) (sym (other_draws_none s c no_word))
-          (reply_done shape s c 0 reply.Silent (none_refuses shape c cs own ready s home standing fit no_second) (no_gate_is_small shape s c no_gate no_second) (sym (reply_is s home standing fit))),
+      done_legal shape s c (Send r) is refl refl ready.range ready.allowed (none_refuses shape c cs own ready s home standing fit (ap second_of is)) reply.Silent (sym (reply_is s home standing fit)),
       moved s home standing fit,
     )
 
@@ -133,7 +114,7 @@ module _ (shape : Shape) (c : Call) (cs : Cells) (own : Node) (ready : IsReady s
             two_nodes cs before mid new ready.unprepared same c.node next (own_there shape c cs own ready) put other arrived (other_there shape c cs own ready other there) again
             ∙ ap (λ (n : Node). changed cs (of_nodes c.node n (Some other) arrived)) next_is ∙ ap (λ (n : Node). changed cs (of_nodes c.node (left q e) (Some other) n)) h;
         named = named_in_nodes c (left q e) reply.Silent (Some other) (sent q e);
-        there = there_nodes cs (record { call = c; word = None; reply = reply.Silent }) (Some other) (own_there shape c cs own ready) (λ k i. this_node cs other k (other_there shape c cs own ready other there) i);
+        there = all_there cs _ (own_there shape c cs own ready, (other_there shape c cs own ready other there, (tt, (tt, tt))));
         step = sent_done q e;
       }
 

@@ -1,10 +1,14 @@
 -- What is free where a node has room: the least number and slot that the pool lists are the model's.
-use Rattle.std.proofs.Common.{ℕ, ◌≡◌, ◌<◌, ◌==◌, true, not, ◌&&◌, Some, IsSome, sym, ap, subst, ◌∙◌}
+use Rattle.std.proofs.Common.{ℕ, ◌≡◌, ◌<◌, ◌==◌, true, not, ◌&&◌, Some, IsSome, refl, sym, ap, subst, ◌∙◌}
 use Rattle.state_model.specs.Row.{is_listed}
+use Rattle.state_model.proofs.Booleans.{clash}
 use Rattle.network_model.specs.Network.{Network, Shape, load}
+use Rattle.network_model.specs.Kinds.{kind_of, is_making, is_measurement}
 use Rattle.network_model.specs.Step.{least_free}
 use Rattle.network_model.specs.Factored.{FitsPool, used_slots}
 use Rattle.network_model.specs.declared.Call.{Call}
+use Rattle.network_model.specs.declared.Kind.{Kind}
+use Rattle.network_model.specs.declared.Kind.TheVariants.{Measure, Make, Pair}
 use Rattle.qubit_handles.specs.Handle.{AreDistinct}
 use Rattle.virtual_node.specs.Node.{Node, load_of}
 use Rattle.cell_laws.specs.Standing.{IsStanding}
@@ -12,14 +16,22 @@ use Rattle.core_cells.specs.Marks.{IsLeastListed}
 use Rattle.core_cells.specs.Pool.{Pool}
 use Rattle.core_cells.specs.Cells.{Cells, CellsFit}
 use Rattle.core_cells.specs.declared.cells.PoolPair.{PoolPair}
-use Rattle.factored_core.specs.Needs.{may_touch_pool}
+use Rattle.factored_core.specs.Needs.{may_touch_pool, takes_slot}
 use Rattle.factored_core.specs.Ready.{IsReady}
 use Rattle.factored_core.specs.Vacancies.{IsTaken}
-use Rattle.factored_core.specs.declared.transfers.Vacancy.{Vacancy}
+use Rattle.factored_core.specs.declared.new_qubits.Vacancy.{Vacancy}
 use Rattle.factored_core.proofs.Changed.{there_is, some_there}
 use Rattle.factored_core.proofs.Loads.{same_load}
 use Rattle.factored_core.proofs.Operands.{own_fits}
 use Rattle.factored_core.proofs.PoolSteps.{least_number_is, least_slot_is, number_left, slot_left}
+
+-- what takes a slot touches the pool
+pub slot_from_pool : (k : Kind) → takes_slot k ≡ true → may_touch_pool k ≡ true
+unfolding takes_slot may_touch_pool is_making is_measurement
+slot_from_pool (Measure after told) e = refl
+slot_from_pool Make e = refl
+slot_from_pool (Pair r) e = refl
+slot_from_pool k e = absurd (clash (sym e))
 
 module _ (shape : Shape) (c : Call) (cs : Cells) (own : Node) (ready : IsReady shape c cs own) where
   -- the own node has room in each state that the cells fit
@@ -29,9 +41,9 @@ module _ (shape : Shape) (c : Call) (cs : Cells) (own : Node) (ready : IsReady s
   pub own_there : IsSome (cs.node c.node)
   own_there = let h = ready.has in some_there (cs.node c.node) h.own h.own_there
 
-  module _ (touch : may_touch_pool c.command.instr ≡ true) where
+  module _ (touch : takes_slot (kind_of c.command.instr) ≡ true) where
     pub pool_there : IsSome cs.pool
-    pool_there = let h = ready.has in h.pool touch
+    pool_there = let h = ready.has in h.pool (slot_from_pool (kind_of c.command.instr) touch)
 
     -- the pool's value, and a copy of it
     pub pool_is : (w : PoolPair) × (cs.pool ≡ Some w)

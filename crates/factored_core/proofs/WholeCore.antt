@@ -9,11 +9,11 @@ use Rattle.std.proofs.Common.{ℕ, ◌≡◌, ◌*◌, ◌<◌, ◌≤◌, ◌==
 use Rattle.std.proofs.lemmas.List.Quantifiers.{position-Some}
 use Rattle.state_model.specs.Row.{is_listed}
 use Rattle.state_model.proofs.Booleans.{clash, both_true, eq_true}
-use Rattle.cqc_model.specs.declared.Instr.{Instr}
-use Rattle.cqc_model.specs.declared.Instr.TheVariants.{Cnot, Cphase}
+use Rattle.network_model.specs.declared.Kind.{Kind}
 use Rattle.cqc_model.specs.declared.Remote.{Remote}
 use Rattle.network_model.specs.Network.{Network, Shape, opening}
-use Rattle.network_model.specs.Step.{is_without_operand, node_at, remote_of}
+use Rattle.network_model.specs.Kinds.{kind_of, takes_qubit, second_of, remote_of}
+use Rattle.network_model.specs.Step.{node_at}
 use Rattle.network_model.specs.History.{advance, after}
 use Rattle.network_model.specs.Factored.{homes_step, homes_from, homes_after, used_slots}
 use Rattle.network_model.specs.declared.Call.{Call}
@@ -28,10 +28,10 @@ use Rattle.core_cells.specs.Owned.{IsOpened}
 use Rattle.core_cells.specs.declared.cells.NodePair.{NodePair}
 use Rattle.core_cells.specs.declared.cells.PoolPair.{PoolPair}
 use Rattle.core_cells.specs.declared.cells.SlotCell.{SlotCell}
-use Rattle.factored_core.specs.Changes.{Changes, changed, IsPreparedStep, AreThere}
+use Rattle.factored_core.specs.Changes.{Changes, changed, IsPreparedStep}
 use Rattle.factored_core.specs.Core.{IsCore, IsCoreStep, StandsFor}
 use Rattle.factored_core.specs.Finish.{IsLeftBy}
-use Rattle.factored_core.specs.Needs.{first_of, second_of, other_than, other_at, other_of}
+use Rattle.factored_core.specs.Needs.{first_of, number_at, other_than, other_at, other_of}
 use Rattle.factored_core.specs.Ready.{HasCells}
 use Rattle.factored_core.specs.declared.prepared.Prepared.{Prepared}
 use Rattle.factored_core.proofs.Changed.{there, there_is, some_node, some_pool, some_slot, settled-fit, forgotten-changed}
@@ -59,19 +59,18 @@ other_within shape own (Some r) n e = by (position (λ p. (Place.address p == r.
         at true e = no_number n e
         at false e = subst (λ (k : ℕ). k < length shape.places) (same m n e) ((position-Some _ shape.places m (record { address = 0; port = 0 }) is).0)
 
-first_number : (c : Call) (own : Node) (q : ℕ) → first_of c own ≡ Some q → number_of own.handles c.app c.command.qubit ≡ Some q
+first_number : (c : Call) (own : Node) (k : Kind) (q : ℕ) → first_of c own k ≡ Some q → number_of own.handles c.app c.command.qubit ≡ Some q
 unfolding first_of
-first_number c own q e = by (is_without_operand c.command.instr) e
+first_number c own k q e = by (takes_qubit k) e
   where
-    by : (b : Bool) → cond b None (number_of own.handles c.app c.command.qubit) ≡ Some q → number_of own.handles c.app c.command.qubit ≡ Some q
-    by true e = no_number q e
-    by false e = e
+    by : (b : Bool) → cond b (number_of own.handles c.app c.command.qubit) None ≡ Some q → number_of own.handles c.app c.command.qubit ≡ Some q
+    by true e = e
+    by false e = no_number q e
 
-second_number : (app : ℕ) (own : Node) (i : Instr) (q : ℕ) → second_of app own i ≡ Some q → (id : ℕ) × (number_of own.handles app id ≡ Some q)
-unfolding second_of
-second_number app own (Cnot id) q e = (id, e)
-second_number app own (Cphase id) q e = (id, e)
-second_number app own i q e = no_number q e
+second_number : (app : ℕ) (own : Node) (id : Option ℕ) (q : ℕ) → number_at app own id ≡ Some q → (i : ℕ) × (number_of own.handles app i ≡ Some q)
+unfolding number_at
+second_number app own None q e = no_number q e
+second_number app own (Some id) q e = (id, e)
 
 module _ (shape : Shape) (c : Call) (cs : Cells) (core : IsCore shape cs) (node : c.node < length shape.places) where
   abbrev s : Network
@@ -101,16 +100,16 @@ module _ (shape : Shape) (c : Call) (cs : Cells) (core : IsCore shape cs) (node 
   has_cells = record {
     own = own.0;
     own_there = own.1;
-    other = λ n e. core.all.nodes n (other_within shape c.node (remote_of c.command.instr) n e);
+    other = λ n e. core.all.nodes n (other_within shape c.node (remote_of (kind_of c.command.instr)) n e);
     pool = λ e. core.all.pool;
-    first = λ q e. at_home q (held c.command.qubit q (first_number c (own.0).now q e));
-    second = λ q e. let x = second_number c.app (own.0).now c.command.instr q e in at_home q (held (x.0) q (x.1));
+    first = λ q e. at_home q (held c.command.qubit q (first_number c (own.0).now (kind_of c.command.instr) q e));
+    second = λ q e. let x = second_number c.app (own.0).now (second_of (kind_of c.command.instr)) q e in at_home q (held (x.0) q (x.1));
     free = λ w t needed is least. core.all.slots t (low_slot w t is least.listed);
   }
 
 -- ---- the step
-pub left_after : (shape : Shape) (cs mid : Cells) (p : Prepared) → IsPreparedStep shape cs mid p → AreThere cs p → IsLeftBy mid p
-left_after shape cs mid p step there_all = left_by cs mid step.changes p step.after step.named there_all
+pub left_after : (shape : Shape) (cs mid : Cells) (p : Prepared) → IsPreparedStep shape cs mid p → IsLeftBy mid p
+left_after shape cs mid p step = left_by cs mid step.changes p step.after step.named step.there
 
 pub core_step : (shape : Shape) (cs mid new : Cells) (p : Prepared) → IsPreparedStep shape cs mid p → new ≡ settled mid → IsCoreStep shape cs new p.entry
 core_step shape cs mid new p step e s home standing fit =

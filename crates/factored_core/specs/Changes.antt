@@ -1,10 +1,9 @@
 -- What a step prepares on a board: the next values of the cells that it touches, and when they are the step's.
-use Rattle.std.specs.Prelude.{ℕ, ◌≡◌, ◌==◌, Bool, true, cond, ◌||◌, List, [], ◌∷◌, Option, None, Some, IsSome, option_map, is_some}
+use Rattle.std.specs.Prelude.{ℕ, ◌≡◌, ◌==◌, cond, List, [], ◌∷◌, Option, None, Some, option_map, is_some}
 use Rattle.state_model.specs.Amplitudes.{Amplitudes}
 use Rattle.state_model.specs.Registers.{Register}
 use Rattle.amplitude_register.specs.States.{Next, empty, prepared}
 use Rattle.network_model.specs.Network.{Network, Shape}
-use Rattle.network_model.specs.Step.{fails}
 use Rattle.network_model.specs.History.{IsLegalEntry, advance}
 use Rattle.network_model.specs.Factored.{FitsNode, FitsSlot, FitsPool, touches_node, touches_slot, touches_pool, homes_step}
 use Rattle.network_model.specs.declared.Entry.{Entry}
@@ -12,6 +11,7 @@ use Rattle.virtual_node.specs.Node.{Node, held_map, arrived_map}
 use Rattle.cell_laws.specs.Standing.{IsStanding}
 use Rattle.core_cells.specs.Pool.{Pool}
 use Rattle.core_cells.specs.Cells.{Cells, CellsFit}
+use Rattle.core_cells.specs.Names.{names_node, names_pool, names_slot, AreThere}
 use Rattle.core_cells.specs.declared.cells.NodePair.{NodePair}
 use Rattle.core_cells.specs.declared.cells.PoolPair.{PoolPair}
 use Rattle.core_cells.specs.declared.cells.SlotCell.{SlotCell}
@@ -72,34 +72,18 @@ pub record ChangesFit (shape : Shape) (s : Network) (home : ℕ → ℕ) (e : En
 abbrev pub IsStepBy : Shape → Cells → Changes → Entry → Type 0
 IsStepBy shape cs ch e = (s : Network) (home : ℕ → ℕ) → IsStanding shape s home → CellsFit shape s home cs → IsLegalEntry shape s e × ChangesFit shape s home e ch
 
--- whether a prepared step has the next value of a node
-abbrev pub has_node : Prepared → ℕ → Bool
-has_node p m = (p.entry.call.node == m) || fails p.other (λ n. n == m)
-
--- whether it has that of a slot
-abbrev pub has_slot : Prepared → ℕ → Bool
-has_slot p t = fails p.one (λ u. u == t) || fails p.two (λ u. u == t)
-
 -- a prepared step names the cells with next values
 pub record AreNamed (p : Prepared) (ch : Changes) : Type 0 where
-  pub nodes : (m : ℕ) → has_node p m ≡ is_some (change_at ch.nodes m)
-  pub pool : p.pool ≡ is_some ch.pool
-  pub slots : (t : ℕ) → has_slot p t ≡ is_some (change_at ch.slots t)
-
--- the cells that a prepared step names are on the board
-pub record AreThere (cs : Cells) (p : Prepared) : Type 0 where
-  pub own : IsSome (cs.node p.entry.call.node)
-  pub other : (n : ℕ) → p.other ≡ Some n → IsSome (cs.node n)
-  pub pool : p.pool ≡ true → IsSome cs.pool
-  pub one : (t : ℕ) → p.one ≡ Some t → IsSome (cs.slot t)
-  pub two : (t : ℕ) → p.two ≡ Some t → IsSome (cs.slot t)
+  pub nodes : (m : ℕ) → names_node p.touched m ≡ is_some (change_at ch.nodes m)
+  pub pool : names_pool p.touched ≡ is_some ch.pool
+  pub slots : (t : ℕ) → names_slot p.touched t ≡ is_some (change_at ch.slots t)
 
 -- the cells are as before but for next values, which are the step's
 pub record IsPreparedStep (shape : Shape) (old new : Cells) (p : Prepared) : Type 0 where
   pub changes : Changes
   pub after : new ≡ changed old changes
   pub named : AreNamed p changes
-  pub there : AreThere old p
+  pub there : AreThere old p.touched
   pub step : IsStepBy shape old changes p.entry
 
 -- the cells fit one state of a network

@@ -1,5 +1,4 @@
 pub mod Changes
-pub mod Faults
 pub mod Finish
 pub mod Needs
 pub mod Slots
@@ -10,4 +9,4 @@ pub mod Replies
 pub mod Core
 pub mod Pairs
 pub mod Vacancies
-pub mod Preparing
+pub mod Laws

@@ -1,36 +1,35 @@
--- What a call needs to be done: the numbers under its ids, the pool, and the other node.
-use Rattle.std.specs.Prelude.{ℕ, ◌==◌, Bool, true, false, cond, Option, None, Some}
-use Rattle.cqc_model.specs.declared.Instr.{Instr}
-use Rattle.cqc_model.specs.declared.Instr.TheVariants.{New, Measure, MeasureInplace, Reset, Epr, Cnot, Cphase, Release}
+-- What a call needs to be done: the numbers under its ids, the pool, a free slot, and the other node.
+use Rattle.std.specs.Prelude.{ℕ, ◌==◌, Bool, true, ◌||◌, cond, Option, None, Some, is_some}
 use Rattle.cqc_model.specs.declared.Remote.{Remote}
+use Rattle.network_model.specs.Kinds.{kind_of, takes_qubit, second_of, remote_of, is_making, is_measurement}
 use Rattle.network_model.specs.Network.{Shape}
-use Rattle.network_model.specs.Step.{is_without_operand, node_at, remote_of}
+use Rattle.network_model.specs.Step.{node_at}
+use Rattle.network_model.specs.declared.After.TheVariants.{Left, Cleared}
 use Rattle.network_model.specs.declared.Call.{Call}
+use Rattle.network_model.specs.declared.Kind.{Kind}
+use Rattle.network_model.specs.declared.Kind.TheVariants.{Measure}
 use Rattle.qubit_handles.specs.Handle.{number_of}
 use Rattle.virtual_node.specs.Node.{Node}
 use Rattle.factored_core.specs.declared.needs.Needs.{Needs}
 
--- the number under the call's own id, where the instruction takes a qubit
-unfoldable pub first_of : Call → Node → Option ℕ
-first_of c own = cond (is_without_operand c.command.instr) None (number_of own.handles c.app c.command.qubit)
+-- the number under the call's own id, where it takes a qubit
+unfoldable pub first_of : Call → Node → Kind → Option ℕ
+first_of c own k = cond (takes_qubit k) (number_of own.handles c.app c.command.qubit) None
 
--- the number under the other id of a gate on two
-unfoldable pub second_of : ℕ → Node → Instr → Option ℕ
-second_of app own (Cnot id) = number_of own.handles app id
-second_of app own (Cphase id) = number_of own.handles app id
-second_of app own _ = None
+-- the number under an id, if there is one
+unfoldable pub number_at : ℕ → Node → Option ℕ → Option ℕ
+number_at app own None = None
+number_at app own (Some id) = number_of own.handles app id
 
--- the instructions that can touch the pool
-unfoldable pub may_touch_pool : Instr → Bool
-may_touch_pool New = true
-may_touch_pool (Epr r) = true
-may_touch_pool (Cnot id) = true
-may_touch_pool (Cphase id) = true
-may_touch_pool Measure = true
-may_touch_pool MeasureInplace = true
-may_touch_pool Reset = true
-may_touch_pool Release = true
-may_touch_pool _ = false
+-- whether the call can touch the pool
+unfoldable pub may_touch_pool : Kind → Bool
+may_touch_pool k = is_making k || is_measurement k || is_some (second_of k)
+
+-- whether the call can take a free slot
+unfoldable pub takes_slot : Kind → Bool
+takes_slot (Measure Left told) = true
+takes_slot (Measure Cleared told) = true
+takes_slot k = is_making k
 
 -- a node, if it is not the own one
 unfoldable pub other_than : ℕ → Option ℕ → Option ℕ
@@ -44,8 +43,9 @@ other_at shape own (Some r) = other_than own (node_at shape r)
 
 -- the other node of a transfer
 unfoldable pub other_of : Shape → Call → Option ℕ
-other_of shape c = other_at shape c.node (remote_of c.command.instr)
+other_of shape c = other_at shape c.node (remote_of (kind_of c.command.instr))
 
 -- what a call needs, from the settings and its own node
 abbrev pub needs_of : Shape → Call → Node → Needs
-needs_of shape c own = record { first = first_of c own; second = second_of c.app own c.command.instr; pool = may_touch_pool c.command.instr; other = other_of shape c }
+needs_of shape c own = let k = kind_of c.command.instr in
+    record { first = first_of c own k; second = number_at c.app own (second_of k); pool = may_touch_pool k; slot = takes_slot k; other = other_of shape c }

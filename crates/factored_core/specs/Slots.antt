@@ -10,14 +10,14 @@ use Rattle.state_model.specs.declared.Gate.{Gate}
 use Rattle.core_cells.specs.Cells.{Cells}
 use Rattle.core_cells.specs.declared.cells.SlotCell.{SlotCell}
 use Rattle.factored_core.specs.Changes.{Changes, changed, change_at, with_next_slot}
-use Rattle.factored_core.specs.declared.slots.Seat.{Seat}
+use Rattle.factored_core.specs.declared.slots.Spot.{Spot}
 
 -- a qubit number is in a slot's register at a place
-pub record IsSeat (cs : Cells) (q : ℕ) (seat : Seat) : Type 0 where
+pub record IsSpot (cs : Cells) (q : ℕ) (spot : Spot) : Type 0 where
   pub cell : SlotCell
-  pub there : cs.slot seat.slot ≡ Some cell
-  pub within : seat.place < length cell.register.value.qubits
-  pub number : qubit_at cell.register.value seat.place ≡ q
+  pub there : cs.slot spot.slot ≡ Some cell
+  pub within : spot.place < length cell.register.value.qubits
+  pub number : qubit_at cell.register.value spot.place ≡ q
   pub rows : HasRows cell.register.value
   pub few : length cell.register.value.qubits ≤ 12
 

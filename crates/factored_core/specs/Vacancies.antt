@@ -10,8 +10,8 @@ use Rattle.network_model.specs.declared.CoreReply.TheVariants as reply
 use Rattle.network_model.specs.declared.Place.{Place}
 use Rattle.core_cells.specs.Marks.{IsLeastListed}
 use Rattle.core_cells.specs.Pool.{Pool}
-use Rattle.factored_core.specs.declared.transfers.Vacancy.{Vacancy}
-use Rattle.factored_core.specs.declared.transfers.PairVacancy.{PairVacancy}
+use Rattle.factored_core.specs.declared.new_qubits.Vacancy.{Vacancy}
+use Rattle.factored_core.specs.declared.new_qubits.PairVacancy.{PairVacancy}
 
 -- the other node, if the fault tells that it was looked at
 abbrev pub touched_by : Option ℕ → Fault → Option ℕ

@@ -1,7 +1,6 @@
-//! Worked calls: what they need, and why they are refused.
-use crate::faults::cell_fault;
+//! Worked calls: what they need.
 use crate::needs::{Needs, call_needs};
-use cqc_model::{Command, Fault, Instr, Remote};
+use cqc_model::{Command, Instr, Remote};
 use network_model::{Call, Place};
 use qubit_handles::Handle;
 use virtual_node::{NodeCell, Shape};
@@ -69,6 +68,7 @@ fn a_gate_on_two_needs_both_numbers_and_the_pool(rt: HostRuntime) {
                 first: Some(9),
                 second: Some(7),
                 pool: true,
+                slot: false,
                 other: None
             }
     );
@@ -79,6 +79,7 @@ fn a_gate_on_two_needs_both_numbers_and_the_pool(rt: HostRuntime) {
                 first: None,
                 second: None,
                 pool: false,
+                slot: false,
                 other: None
             }
     );
@@ -94,6 +95,7 @@ fn a_transfer_needs_the_other_node(rt: HostRuntime) {
             first: None,
             second: None,
             pool: true,
+            slot: true,
             other: Some(1)
         }
     );
@@ -103,49 +105,17 @@ fn a_transfer_needs_the_other_node(rt: HostRuntime) {
             first: Some(7),
             second: None,
             pool: false,
+            slot: false,
             other: None
         }
     );
 }
 
 #[test]
-fn calls_are_refused_in_order(rt: HostRuntime) {
-    let shape = Shape::new(&[OWN, OTHER], 2, 1);
+fn a_qubit_that_stays_may_take_a_free_slot(rt: HostRuntime) {
+    let shape = Shape::new(&[OWN, OTHER], 2, 2);
     let node = two_held();
-    assert!(rt; cell_fault(&shape, &call(4, Instr::RotX(1)), &node, None) == Some(Fault::Unknown));
-    assert!(rt;
-        cell_fault(&shape, &call(0, Instr::RotX(1)), &node, None) == Some(Fault::Unsupported)
-    );
-    assert!(rt; cell_fault(&shape, &call(0, Instr::RotX(64)), &node, None).is_none());
-    assert!(rt; cell_fault(&shape, &call(0, Instr::Cnot(4)), &node, None) == Some(Fault::Unknown));
-    assert!(rt;
-        cell_fault(&shape, &call(0, Instr::Cnot(0)), &node, None) == Some(Fault::Unsupported)
-    );
-    assert!(rt; cell_fault(&shape, &call(0, Instr::Cnot(1)), &node, None).is_none());
-    assert!(rt; cell_fault(&shape, &call(0, Instr::EprRecv), &node, None) == Some(Fault::Timeout));
-}
-
-#[test]
-fn transfers_are_refused_for_want_of_a_node_room_or_a_limit(rt: HostRuntime) {
-    let shape = Shape::new(&[OWN, OTHER], 2, 1);
-    let full = two_held();
-    let empty = NodeCell::new();
-    assert!(rt; cell_fault(&shape, &call(0, Instr::New), &full, None) == Some(Fault::NoQubit));
-    assert!(rt;
-        cell_fault(&shape, &call(0, Instr::Send(remote(OTHER))), &full, None)
-            == Some(Fault::General)
-    );
-    assert!(rt;
-        cell_fault(&shape, &call(0, Instr::Send(remote(OTHER))), &full, Some(2))
-            == Some(Fault::NoQubit)
-    );
-    assert!(rt; cell_fault(&shape, &call(0, Instr::Send(remote(OTHER))), &full, Some(1)).is_none());
-    assert!(rt;
-        cell_fault(&shape, &call(0, Instr::Epr(remote(OTHER))), &full, Some(0))
-            == Some(Fault::NoQubit)
-    );
-    assert!(rt;
-        cell_fault(&shape, &call(0, Instr::Epr(remote(OTHER))), &empty, Some(0))
-            == Some(Fault::General)
-    );
+    assert!(rt; call_needs(&shape, &call(0, Instr::Reset), &node).slot);
+    assert!(rt; call_needs(&shape, &call(0, Instr::MeasureInplace), &node).slot);
+    assert!(rt; !call_needs(&shape, &call(0, Instr::Measure), &node).slot);
 }

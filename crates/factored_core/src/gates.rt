@@ -1,48 +1,46 @@
-//! Gates: on one qubit, on two of one register, and on two of two registers, which become one.
-ghost use Rattle.std.specs.Prelude.{◌≡◌, None, Some, IfSome};
-ghost use Rattle.network_model.specs.Step.{gate_of as gate_of_instr};
-ghost use Rattle.cqc_model.specs.declared.Instr.TheVariants.{I};
+//! Gates on one qubit, and what does nothing to it.
+ghost use Rattle.std.specs.Prelude.{◌≡◌, None, Some};
+ghost use Rattle.network_model.specs.Kinds.{kind_of};
+ghost use Rattle.network_model.specs.declared.Kind.TheVariants.{Idle, Gate as OneGate, Inexact};
 ghost use Rattle.qubit_handles.specs.Handle.{number_of};
 ghost use Rattle.gate_kernels.specs.Gates.{HasEighths};
 ghost use Rattle.core_cells.specs.Cells.{HasHome};
 ghost use Rattle.factored_core.specs.Changes.{IsPreparedStep};
-ghost use Rattle.factored_core.specs.Ready.{IsReady};
+ghost use Rattle.factored_core.specs.Ready.{IsOpen, IsReady};
 ghost use Rattle.factored_core.specs.Replies.{gate_reply as gate_reply_is, in_one_slot};
 
 use crate::prepared::{Prepared, entry_of};
-use crate::slots::{self, seat_of};
+use crate::refusals::refused;
+use crate::slots::{self, spot_of};
 use amplitude_register::TooLarge;
-use core_cells::{Board, prepare_node};
-use cqc_model::{Fault, Instr};
+use core_cells::{Board, CellName, prepare_node};
+use cqc_model::Fault;
 use gate_kernels::Gate;
 use network_model::{Call, CoreReply};
 use virtual_node::{NodeCell, Shape};
 
-/// A rotation turns by steps, of which so many are an eighth of a turn.
-pub(crate) const EIGHTH: u8 = 32;
-
-/// The gate of an instruction on one qubit.
-#[tactic(auto, unfolding(network_model::specs::Step::gate_of))]
-pub(crate) fn gate_of(instr: &Instr) -> Option<Gate>
-    ensures gate { result ≡ gate_of_instr instr.now }
-    ensures eighths { IfSome result HasEighths }
+/// A gate on the call's own qubit, if that is held.
+pub(crate) fn one<B: Board>(
+    board: &mut B,
+    shape: &Shape,
+    call: &Call,
+    own: NodeCell,
+    gate: Gate,
+) -> Prepared
+    requires open { IsOpen shape.now call.now (B.cells board.old) own }
+    requires kind { kind_of call.now.command.instr ≡ OneGate gate }
+    ensures step { IsPreparedStep shape.now (B.cells board.old) (B.cells board.new) result }
+    ensures call { result.entry.call ≡ call.now }
+    ensures word { result.entry.word ≡ None }
 {
-    match *instr {
-        Instr::X => Some(Gate::X),
-        Instr::Y => Some(Gate::Y),
-        Instr::Z => Some(Gate::Z),
-        Instr::T => Some(Gate::T),
-        Instr::H => Some(Gate::H),
-        Instr::K => Some(Gate::K),
-        Instr::RotX(step) => Some(Gate::RotX(step / EIGHTH)),
-        Instr::RotY(step) => Some(Gate::RotY(step / EIGHTH)),
-        Instr::RotZ(step) => Some(Gate::RotZ(step / EIGHTH)),
-        _ => None,
+    match own.handles().find(call.app, call.command.qubit) {
+        Some(number) => gated(board, shape, call, own, number, gate),
+        None => refused(board, call, own, None, Fault::Unknown),
     }
 }
 
-/// A gate on one qubit.
-pub(crate) fn one<B: Board>(
+/// A gate on a held qubit.
+fn gated<B: Board>(
     board: &mut B,
     shape: &Shape,
     call: &Call,
@@ -53,40 +51,68 @@ pub(crate) fn one<B: Board>(
     requires ready { IsReady shape.now call.now (B.cells board.old) own }
     requires number { number_of own.handles call.now.app call.now.command.qubit ≡ Some number }
     requires home { HasHome (B.cells board.old) number }
-    requires gate { gate_of_instr call.now.command.instr ≡ Some gate }
+    requires kind { kind_of call.now.command.instr ≡ OneGate gate }
     requires eighths { HasEighths gate }
     ensures step { IsPreparedStep shape.now (B.cells board.old) (B.cells board.new) result }
     ensures call { result.entry.call ≡ call.now }
     ensures word { result.entry.word ≡ None }
 {
-    let _limit = shape.limit();
-    let seat = seat_of(board, number);
-    let gated = slots::gate(board, seat, gate);
+    shape.facts();
+    let spot = spot_of(board, number);
+    let gated = slots::gate(board, spot, gate);
     prepare_node(board, call.node, own);
-    in_slot(call, None, gate_reply(&gated), seat.slot)
+    in_slot(call, None, gate_reply(&gated), spot.slot)
 }
 
-/// Nothing is done to a qubit.
-pub(crate) fn idle<B: Board>(
+/// A rotation by no whole number of eighths of a turn is refused.
+pub(crate) fn inexact<B: Board>(
     board: &mut B,
     shape: &Shape,
     call: &Call,
     own: NodeCell,
-    number: u8,
 ) -> Prepared
-    requires ready { IsReady shape.now call.now (B.cells board.old) own }
-    requires number { number_of own.handles call.now.app call.now.command.qubit ≡ Some number }
-    requires home { HasHome (B.cells board.old) number }
-    requires idle { call.now.command.instr ≡ I }
+    requires open { IsOpen shape.now call.now (B.cells board.old) own }
+    requires kind { kind_of call.now.command.instr ≡ Inexact }
     ensures step { IsPreparedStep shape.now (B.cells board.old) (B.cells board.new) result }
     ensures call { result.entry.call ≡ call.now }
     ensures word { result.entry.word ≡ None }
 {
-    let _limit = shape.limit();
-    let seat = seat_of(board, number);
-    slots::keep(board, seat.slot);
+    shape.facts();
+    match own.handles().find(call.app, call.command.qubit) {
+        Some(_) => refused(board, call, own, None, Fault::Unsupported),
+        None => refused(board, call, own, None, Fault::Unknown),
+    }
+}
+
+/// Nothing is done to the call's own qubit, if that is held.
+pub(crate) fn idle<B: Board>(board: &mut B, shape: &Shape, call: &Call, own: NodeCell) -> Prepared
+    requires open { IsOpen shape.now call.now (B.cells board.old) own }
+    requires kind { kind_of call.now.command.instr ≡ Idle }
+    ensures step { IsPreparedStep shape.now (B.cells board.old) (B.cells board.new) result }
+    ensures call { result.entry.call ≡ call.now }
+    ensures word { result.entry.word ≡ None }
+{
+    match own.handles().find(call.app, call.command.qubit) {
+        Some(number) => kept(board, shape, call, own, number),
+        None => refused(board, call, own, None, Fault::Unknown),
+    }
+}
+
+/// Nothing is done to a held qubit.
+fn kept<B: Board>(board: &mut B, shape: &Shape, call: &Call, own: NodeCell, number: u8) -> Prepared
+    requires ready { IsReady shape.now call.now (B.cells board.old) own }
+    requires number { number_of own.handles call.now.app call.now.command.qubit ≡ Some number }
+    requires home { HasHome (B.cells board.old) number }
+    requires kind { kind_of call.now.command.instr ≡ Idle }
+    ensures step { IsPreparedStep shape.now (B.cells board.old) (B.cells board.new) result }
+    ensures call { result.entry.call ≡ call.now }
+    ensures word { result.entry.word ≡ None }
+{
+    shape.facts();
+    let spot = spot_of(board, number);
+    slots::keep(board, spot.slot);
     prepare_node(board, call.node, own);
-    in_slot(call, None, CoreReply::Silent, seat.slot)
+    in_slot(call, None, CoreReply::Silent, spot.slot)
 }
 
 /// The reply to a gate on one qubit.
@@ -105,9 +131,11 @@ pub(crate) fn in_slot(call: &Call, word: Option<u64>, reply: CoreReply, slot: u8
 {
     Prepared {
         entry: entry_of(call, word, reply),
-        other: None,
-        pool: false,
-        one: Some(slot),
-        two: None,
+        touched: [
+            Some(CellName::Node(call.node)),
+            Some(CellName::Slot(slot)),
+            None,
+            None,
+        ],
     }
 }

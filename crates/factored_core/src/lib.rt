@@ -5,23 +5,25 @@
 #[cfg(test)]
 mod call_tests;
 mod ending;
-mod faults;
 mod gates;
+pub mod laws;
 mod measurements;
 mod needs;
+mod new_qubits;
 mod pairs;
 mod preparation;
 mod prepared;
 mod ranges;
+mod refusals;
 mod slots;
 mod solo;
 #[cfg(test)]
 mod solo_tests;
 mod transfers;
-mod twos;
+mod two_qubit_gates;
 mod whole;
 
-pub use core_cells::{Board, NodePair, PoolCell, PoolPair, SlotCell};
+pub use core_cells::{Board, CellName, NodePair, PoolCell, PoolPair, SlotCell};
 pub use ending::{finish, undo};
 pub use needs::{Needs, call_needs};
 pub use network_model::{Call, CoreReply, Entry, JournalFull};

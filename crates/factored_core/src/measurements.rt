@@ -1,75 +1,86 @@
 //! Measurements: the outcome, the rows that stay, and the place of a measured qubit.
-ghost use Rattle.std.specs.Prelude.{◌≡◌, ◌≤◌, ◌<◌, ◌*◌, length, true, false, None, Some};
-ghost use Rattle.network_model.specs.Step.{is_measurement};
-ghost use Rattle.qubit_handles.specs.Handle.{number_of};
+ghost use Rattle.std.specs.Prelude.{◌≡◌, ◌<◌, ◌+◌, ◌^◌, true, false, None, Some, MatchOption};
+ghost use Rattle.network_model.specs.Kinds.{kind_of};
+ghost use Rattle.network_model.specs.Step.{measured_reply};
+ghost use Rattle.network_model.specs.declared.Kind.TheVariants.{Measure};
 ghost use Rattle.core_cells.specs.Cells.{HasHome};
 ghost use Rattle.factored_core.specs.Changes.{IsPreparedStep};
-ghost use Rattle.factored_core.specs.Ready.{IsReady};
-ghost use Rattle.factored_core.specs.Measurements.{takes_out as takes_out_by, value_of as value_of_by, answer_of as answer_of_by, measured_entry, IsMeasured, HasMeasured, IsGivenBack};
+ghost use Rattle.factored_core.specs.Ready.{IsOpen};
+ghost use Rattle.factored_core.specs.Measurements.{IsTakenBy, IsLeftAs, measured_entry, measured_step, IsMeasured, HasMeasured, IsGivenBack};
 
 use crate::prepared::{Prepared, entry_of};
-use crate::ranges::slot_bound;
+use crate::refusals::refused;
 use crate::slots;
-use crate::slots::Seat;
-use core_cells::{Board, PoolCell, held_pool, prepare_node, prepare_pool};
-use cqc_model::Instr;
-use network_model::{Call, CoreReply};
+use crate::slots::Spot;
+use core_cells::{Board, CellName, PoolCell, held_pool, prepare_node, prepare_pool};
+use cqc_model::Fault;
+use network_model::{After, Call, CoreReply};
+use qron_link::Dice;
 use virtual_node::{NodeCell, Shape};
 
-/// A measured qubit: its number and its seat, whether it is alone there, the random word, and the outcome.
+/// A measured qubit: its number and its spot, whether it is alone there, the random word, the outcome, and whether
+/// that is told.
 #[derive(Clone, Copy, PartialEq, Eq, Debug, Drop)]
 pub(crate) struct Measured {
     pub(crate) number: u8,
-    pub(crate) seat: Seat,
+    pub(crate) spot: Spot,
     pub(crate) alone: bool,
     pub(crate) word: u64,
     pub(crate) outcome: bool,
+    pub(crate) told: bool,
 }
 
-/// A measurement of a held qubit by a random word.
-pub(crate) fn measure<B: Board>(
+/// A measurement of the call's own qubit, if that is held, by the dice's next word.
+pub(crate) fn measure<B: Board, D: Dice>(
     board: &mut B,
     shape: &Shape,
     call: &Call,
     own: NodeCell,
-    number: u8,
-    word: u64,
+    after: After,
+    told: bool,
+    dice: &mut D,
 ) -> Prepared
-    requires ready { IsReady shape.now call.now (B.cells board.old) own }
-    requires measures { is_measurement call.now.command.instr ≡ true }
-    requires number { number_of own.handles call.now.app call.now.command.qubit ≡ Some number }
-    requires home { HasHome (B.cells board.old) number }
+    requires open { IsOpen shape.now call.now (B.cells board.old) own }
+    requires kind { kind_of call.now.command.instr ≡ Measure after told }
+    requires words { D.taken dice.old < 2 ^ 63 }
     ensures step { IsPreparedStep shape.now (B.cells board.old) (B.cells board.new) result }
     ensures call { result.entry.call ≡ call.now }
-    ensures word { result.entry.word ≡ Some word }
+    ensures word { MatchOption result.entry.word (D.taken dice.new ≡ D.taken dice.old)
+        (λ w. (w ≡ D.word (D.key dice.old) (D.begun_seat dice.old) (D.begun_serial dice.old) (D.taken dice.old)) × (D.taken dice.new ≡ D.taken dice.old + 1)) }
+    ensures key { D.key dice.new ≡ D.key dice.old }
+    ensures seat { D.begun_seat dice.new ≡ D.begun_seat dice.old }
+    ensures serial { D.begun_serial dice.new ≡ D.begun_serial dice.old }
 {
-    let measured = drawn(board, number, word);
-    if takes_out(&call.command.instr) {
-        return taken_out(board, shape, call, own, measured);
+    let Some(number) = own.handles().find(call.app, call.command.qubit) else {
+        return refused(board, call, own, None, Fault::Unknown);
+    };
+    let measured = drawn(board, number, dice.next(), told);
+    match after {
+        After::TakenOut => taken_out(board, shape, call, own, measured),
+        After::Left => left(board, shape, call, own, measured, measured.outcome),
+        After::Cleared => left(board, shape, call, own, measured, false),
     }
-    if measured.alone {
-        return left_alone(board, shape, call, own, measured);
-    }
-    moved_out(board, shape, call, own, measured)
 }
 
 /// Where a qubit is, and what a word draws.
-fn drawn<B: Board>(board: &mut B, number: u8, word: u64) -> Measured
+fn drawn<B: Board>(board: &mut B, number: u8, word: u64, told: bool) -> Measured
     requires { HasHome (B.cells board.old) number }
     ensures same { B.cells board.new ≡ B.cells board.old }
     ensures measured { IsMeasured (B.cells board.old) result }
     ensures number { result.number ≡ number }
     ensures word { result.word ≡ word }
+    ensures told { result.told ≡ told }
 {
-    let seat = slots::seat_of(board, number);
-    let alone = slots::count(board, seat.slot) == 1;
-    let split = slots::weights(board, seat);
+    let spot = slots::spot_of(board, number);
+    let alone = slots::count(board, spot.slot) == 1;
+    let split = slots::weights(board, spot);
     Measured {
         number,
-        seat,
+        spot,
         alone,
         word,
         outcome: born_draw::outcome(word, split.one, split.whole),
+        told,
     }
 }
 
@@ -82,18 +93,38 @@ fn taken_out<B: Board>(
     measured: Measured,
 ) -> Prepared
     requires measured { HasMeasured shape.now call.now (B.cells board.old) own measured }
-    requires measures { is_measurement call.now.command.instr ≡ true }
-    requires takes { takes_out_by call.now.command.instr ≡ true }
+    requires taken { IsTakenBy call.now measured }
     ensures step { IsPreparedStep shape.now (B.cells board.old) (B.cells board.new) result }
     ensures entry { result.entry ≡ measured_entry call.now measured }
 {
-    slot_bound(shape);
+    shape.facts();
     own.drop_handle(call.app, call.command.qubit);
     let pool = given_back(held_pool(board), measured);
     prepare_node(board, call.node, own);
     prepare_pool(board, pool);
-    slots::take_out(board, measured.seat, measured.outcome);
+    slots::take_out(board, measured.spot, measured.outcome);
     step_of(call, measured, None)
+}
+
+/// The measured qubit stays with a value of its own.
+fn left<B: Board>(
+    board: &mut B,
+    shape: &Shape,
+    call: &Call,
+    own: NodeCell,
+    measured: Measured,
+    value: bool,
+) -> Prepared
+    requires measured { HasMeasured shape.now call.now (B.cells board.old) own measured }
+    requires left { IsLeftAs call.now measured value }
+    ensures step { IsPreparedStep shape.now (B.cells board.old) (B.cells board.new) result }
+    ensures entry { result.entry ≡ measured_entry call.now measured }
+{
+    if measured.alone {
+        left_alone(board, shape, call, own, measured, value)
+    } else {
+        moved_out(board, shape, call, own, measured, value)
+    }
 }
 
 /// The measured qubit stays in its slot, where it is alone, with a value of its own.
@@ -103,19 +134,19 @@ fn left_alone<B: Board>(
     call: &Call,
     own: NodeCell,
     measured: Measured,
+    value: bool,
 ) -> Prepared
     requires measured { HasMeasured shape.now call.now (B.cells board.old) own measured }
-    requires measures { is_measurement call.now.command.instr ≡ true }
-    requires leaves { takes_out_by call.now.command.instr ≡ false }
+    requires left { IsLeftAs call.now measured value }
     requires alone { measured.alone ≡ true }
     ensures step { IsPreparedStep shape.now (B.cells board.old) (B.cells board.new) result }
     ensures entry { result.entry ≡ measured_entry call.now measured }
 {
+    shape.facts();
     let pool = held_pool(board);
     prepare_node(board, call.node, own);
     prepare_pool(board, pool);
-    let value = value_of(&call.command.instr, measured.outcome);
-    slots::set(board, measured.seat.slot, measured.number, value);
+    slots::set(board, measured.spot.slot, measured.number, value);
     step_of(call, measured, None)
 }
 
@@ -126,14 +157,15 @@ fn moved_out<B: Board>(
     call: &Call,
     own: NodeCell,
     measured: Measured,
+    value: bool,
 ) -> Prepared
     requires measured { HasMeasured shape.now call.now (B.cells board.old) own measured }
-    requires measures { is_measurement call.now.command.instr ≡ true }
-    requires leaves { takes_out_by call.now.command.instr ≡ false }
+    requires left { IsLeftAs call.now measured value }
     requires alone { measured.alone ≡ false }
     ensures step { IsPreparedStep shape.now (B.cells board.old) (B.cells board.new) result }
     ensures entry { result.entry ≡ measured_entry call.now measured }
 {
+    shape.facts();
     let mut pool = held_pool(board);
     pool.facts();
     let Some(slot) = pool.least_slot() else {
@@ -142,8 +174,7 @@ fn moved_out<B: Board>(
     pool.take_slot(slot);
     prepare_node(board, call.node, own);
     prepare_pool(board, pool);
-    slots::take_out(board, measured.seat, measured.outcome);
-    let value = value_of(&call.command.instr, measured.outcome);
+    slots::take_out(board, measured.spot, measured.outcome);
     slots::set(board, slot, measured.number, value);
     step_of(call, measured, Some(slot))
 }
@@ -151,56 +182,40 @@ fn moved_out<B: Board>(
 /// A pool with the measured qubit's number, and with its slot where it was alone.
 fn given_back(mut pool: PoolCell, measured: Measured) -> PoolCell
     requires number { measured.number < 128 }
-    requires slot { measured.seat.slot < 128 }
+    requires slot { measured.spot.slot < 128 }
     ensures { IsGivenBack measured pool result }
 {
     pool.free_number(measured.number);
     if measured.alone {
-        pool.free_slot(measured.seat.slot);
+        pool.free_slot(measured.spot.slot);
     }
     pool
 }
 
 /// The step of a measurement: the qubit's slot changes, and maybe another.
 fn step_of(call: &Call, measured: Measured, other: Option<u8>) -> Prepared
-    ensures { result ≡ record { entry = measured_entry call.now measured; other = None; pool = true; one = Some measured.seat.slot; two = other } }
+    ensures { result ≡ measured_step call.now measured other }
 {
-    let reply = answer_of(&call.command.instr, measured.outcome);
+    let reply = answer(measured.told, measured.outcome);
     Prepared {
         entry: entry_of(call, Some(measured.word), reply),
-        other: None,
-        pool: true,
-        one: Some(measured.seat.slot),
-        two: other,
+        touched: [
+            Some(CellName::Node(call.node)),
+            Some(CellName::Slot(measured.spot.slot)),
+            Some(CellName::Pool),
+            other.map(|slot| CellName::Slot(slot)),
+        ],
     }
 }
 
-/// Whether a measured qubit is taken out.
-#[tactic(auto, unfolding(crate::specs::Measurements::takes_out))]
-fn takes_out(instr: &Instr) -> bool
-    ensures { result ≡ takes_out_by instr.now }
+/// The reply to a measurement, whose outcome is told or not.
+#[tactic(auto, unfolding(network_model::specs::Step::measured_reply))]
+fn answer(told: bool, outcome: bool) -> CoreReply
+    ensures { result ≡ measured_reply told outcome }
 {
-    matches!(instr, Instr::Measure | Instr::Release)
-}
-
-/// The value with which a measured qubit is left.
-#[tactic(auto, unfolding(crate::specs::Measurements::value_of))]
-fn value_of(instr: &Instr, outcome: bool) -> bool
-    ensures { result ≡ value_of_by instr.now outcome }
-{
-    match instr {
-        Instr::MeasureInplace => outcome,
-        _ => false,
-    }
-}
-
-/// The reply to a measurement.
-#[tactic(auto, unfolding(crate::specs::Measurements::answer_of))]
-fn answer_of(instr: &Instr, outcome: bool) -> CoreReply
-    ensures { result ≡ answer_of_by instr.now outcome }
-{
-    match instr {
-        Instr::Measure | Instr::MeasureInplace => CoreReply::Outcome(outcome),
-        _ => CoreReply::Silent,
+    if told {
+        CoreReply::Outcome(outcome)
+    } else {
+        CoreReply::Silent
     }
 }

@@ -1,17 +1,14 @@
 //! A step that is prepared on a board.
 ghost use Rattle.std.specs.Prelude.{◌≡◌};
 
+use core_cells::CellName;
 use network_model::{Call, CoreReply, Entry};
 
-/// A prepared step: its entry, and which cells have next values beside the own node's: another node's, the
-/// pool's, and those of at most two slots.
+/// A prepared step: its entry, and the names of the cells that it touches, which have next values.
 #[derive(Drop)]
 pub struct Prepared {
     pub(crate) entry: Entry,
-    pub(crate) other: Option<u8>,
-    pub(crate) pool: bool,
-    pub(crate) one: Option<u8>,
-    pub(crate) two: Option<u8>,
+    pub(crate) touched: [Option<CellName>; 4],
 }
 
 impl Prepared {

@@ -1,11 +1,10 @@
 // The numbers of a call lie in the ranges of their types.
-ghost use Rattle.std.specs.Prelude.{◌≡◌, ◌<◌, ◌≤◌, ◌*◌, ◌^◌, true, length};
+ghost use Rattle.std.specs.Prelude.{◌≡◌, ◌<◌, ◌^◌, true};
 ghost use Rattle.cqc_model.specs.Ranges.{is_in_range};
 ghost use Rattle.factored_core.specs.Ranges.{IsCallInRange};
 
 use cqc_model::{Instr, Remote};
 use network_model::Call;
-use virtual_node::Shape;
 
 /// What the types of a call's numbers say of them.
 pub(crate) fn call_ranges(call: &Call)
@@ -42,11 +41,4 @@ fn remote_range(remote: &Remote)
     let _app = remote.app;
     let _port = remote.port;
     let _node = remote.node;
-}
-
-/// What every network keeps: its qubit numbers and slots are below 128.
-pub(crate) fn slot_bound(shape: &Shape)
-    ensures { length shape.now.places * shape.now.room ≤ 128 }
-{
-    let _ = shape.nodes() * shape.room();
 }

@@ -7,7 +7,7 @@ ghost use Rattle.gate_kernels.specs.Gates.{HasEighths};
 ghost use Rattle.core_cells.specs.Cells.{HasHome};
 ghost use Rattle.core_cells.specs.declared.cells.SlotCell.{SlotCell};
 ghost use Rattle.register_split.specs.Removal.{HasRowWith, IsTakenOut};
-ghost use Rattle.factored_core.specs.Slots.{IsSeat, HasPrepared, IsSame, IsPreparedAs, IsGated, IsKeptFrom, IsSplit};
+ghost use Rattle.factored_core.specs.Slots.{IsSpot, HasPrepared, IsSame, IsPreparedAs, IsGated, IsKeptFrom, IsSplit};
 
 use amplitude_register::{Register, TooLarge};
 use core_cells::Board;
@@ -16,20 +16,20 @@ use register_split::{Split, prepare_take_out};
 
 /// Where a qubit is: its slot, and its place in the register there.
 #[derive(Clone, Copy, PartialEq, Eq, Debug, Drop)]
-pub(crate) struct Seat {
+pub(crate) struct Spot {
     pub(crate) slot: u8,
     pub(crate) place: u8,
 }
 
 /// Where a qubit is.
-pub(crate) fn seat_of<B: Board>(board: &mut B, number: u8) -> Seat
+pub(crate) fn spot_of<B: Board>(board: &mut B, number: u8) -> Spot
     requires { HasHome (B.cells board.old) number }
     ensures same { B.cells board.new ≡ B.cells board.old }
-    ensures seat { IsSeat (B.cells board.old) number result }
+    ensures spot { IsSpot (B.cells board.old) number result }
 {
     let slot = board.home(number);
     let place = place_in(board, slot, number);
-    Seat { slot, place }
+    Spot { slot, place }
 }
 
 /// The place of a qubit in the slot's register.
@@ -82,15 +82,15 @@ pub(crate) fn empty<B: Board>(board: &mut B, slot: u8)
     board.slot(slot).register.prepare_none();
 }
 
-/// Prepares what a gate makes of the qubit at a seat; where that is too large, the slot's own value.
-pub(crate) fn gate<B: Board>(board: &mut B, seat: Seat, gate: Gate) -> Result<(), TooLarge>
-    requires seat { (w : SlotCell) × ((B.cells board.old).slot seat.slot ≡ Some w) × (seat.place < length w.register.value.qubits) }
+/// Prepares what a gate makes of the qubit at a spot; where that is too large, the slot's own value.
+pub(crate) fn gate<B: Board>(board: &mut B, spot: Spot, gate: Gate) -> Result<(), TooLarge>
+    requires spot { (w : SlotCell) × ((B.cells board.old).slot spot.slot ≡ Some w) × (spot.place < length w.register.value.qubits) }
     requires eighths { HasEighths gate }
     ensures { MatchResult result
-        (λ _. HasPrepared (B.cells board.old) (B.cells board.new) seat.slot (IsGated gate seat.place))
-        (λ _. HasPrepared (B.cells board.old) (B.cells board.new) seat.slot (IsKeptFrom gate seat.place)) }
+        (λ _. HasPrepared (B.cells board.old) (B.cells board.new) spot.slot (IsGated gate spot.place))
+        (λ _. HasPrepared (B.cells board.old) (B.cells board.new) spot.slot (IsKeptFrom gate spot.place)) }
 {
-    gate_or_same(&mut board.slot(seat.slot).register, seat.place, gate)
+    gate_or_same(&mut board.slot(spot.slot).register, spot.place, gate)
 }
 
 /// Prepares what a gate makes of the qubit at a place; where that is too large, the register's own value.
@@ -107,25 +107,25 @@ fn gate_or_same(register: &mut Register, place: u8, gate: Gate) -> Result<(), To
     gated
 }
 
-/// The weights that decide the outcome of a measurement of the qubit at a seat.
-pub(crate) fn weights<B: Board>(board: &mut B, seat: Seat) -> Split
-    requires seat { (w : SlotCell) × ((B.cells board.old).slot seat.slot ≡ Some w) × (seat.place < length w.register.value.qubits) }
+/// The weights that decide the outcome of a measurement of the qubit at a spot.
+pub(crate) fn weights<B: Board>(board: &mut B, spot: Spot) -> Split
+    requires spot { (w : SlotCell) × ((B.cells board.old).slot spot.slot ≡ Some w) × (spot.place < length w.register.value.qubits) }
     ensures same { B.cells board.new ≡ B.cells board.old }
-    ensures split { (w : SlotCell) → (B.cells board.old).slot seat.slot ≡ Some w → IsSplit seat.place w.register.value result }
+    ensures split { (w : SlotCell) → (B.cells board.old).slot spot.slot ≡ Some w → IsSplit spot.place w.register.value result }
     ensures one_x { unsigned_abs result.one.x < 2 ^ 60 }
     ensures one_y { unsigned_abs result.one.y < 2 ^ 60 }
     ensures whole_x { unsigned_abs result.whole.x < 2 ^ 60 }
     ensures whole_y { unsigned_abs result.whole.y < 2 ^ 60 }
 {
-    register_split::weights(&board.slot(seat.slot).register, seat.place)
+    register_split::weights(&board.slot(spot.slot).register, spot.place)
 }
 
-/// Prepares what stays in the slot when the qubit at a seat is taken out with a bit. Some row with that bit isn't zero.
-pub(crate) fn take_out<B: Board>(board: &mut B, seat: Seat, bit: bool)
-    requires { (w : SlotCell) × ((B.cells board.old).slot seat.slot ≡ Some w) × (seat.place < length w.register.value.qubits) × HasRowWith seat.place bit w.register.value }
-    ensures { HasPrepared (B.cells board.old) (B.cells board.new) seat.slot (IsTakenOut seat.place bit) }
+/// Prepares what stays in the slot when the qubit at a spot is taken out with a bit. Some row with that bit isn't zero.
+pub(crate) fn take_out<B: Board>(board: &mut B, spot: Spot, bit: bool)
+    requires { (w : SlotCell) × ((B.cells board.old).slot spot.slot ≡ Some w) × (spot.place < length w.register.value.qubits) × HasRowWith spot.place bit w.register.value }
+    ensures { HasPrepared (B.cells board.old) (B.cells board.new) spot.slot (IsTakenOut spot.place bit) }
 {
-    prepare_take_out(&mut board.slot(seat.slot).register, seat.place, bit);
+    prepare_take_out(&mut board.slot(spot.slot).register, spot.place, bit);
 }
 
 /// Prepares two qubits in the sum of the rows in which they agree.

@@ -29,7 +29,7 @@ impl Model for Solo {
     ghost view = { λ s. record { shape = s.core.shape; capacity = s.capacity; entries = s.journal.items } };
 
     ghost invariant = { λ s. StandsFor s.core.shape s.journal.items (cells_of s.core.owned)
-        × (length s.journal.items ≤ s.capacity) × (s.capacity ≤ vec_capacity s.journal) };
+        × (length s.journal.items ≤ s.capacity) × (s.capacity ≤ vec_capacity s.journal) × (s.capacity ≤ 1048576) };
 }
 
 impl Solo {
@@ -77,6 +77,7 @@ impl Solo {
         ensures value { result.now ≡ self.now.entries }
         ensures legal { IsLegal self.now.shape self.now.entries }
         ensures few { length self.now.entries ≤ self.now.capacity }
+        ensures most { self.now.capacity ≤ 1048576 }
     {
         &self.journal
     }

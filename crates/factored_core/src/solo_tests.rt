@@ -1,5 +1,5 @@
 //! Worked lists of calls: each with the word that it would draw, and its reply.
-ghost use Rattle.std.specs.Prelude.{◌≤◌};
+ghost use Rattle.std.specs.Prelude.{◌≡◌, ◌≤◌};
 
 use crate::solo::Solo;
 use cqc_model::{Command, Fault, Instr, PairInfo, Remote};
@@ -234,6 +234,31 @@ fn a_qubit_that_a_full_node_refuses_is_kept(rt: HostRuntime) -> Result<(), Fail>
 }
 
 #[test]
+fn refusals_come_in_their_order(rt: HostRuntime) -> Result<(), Fail> {
+    let unknown = CoreReply::Error(Fault::Unknown);
+    let unsupported = CoreReply::Error(Fault::Unsupported);
+    let cases = [
+        own(0, Instr::New, 0, CoreReply::New(0)),
+        own(9, Instr::RotX(1), 0, unknown),
+        own(0, Instr::RotX(1), 0, unsupported),
+        own(0, Instr::RotX(64), 0, CoreReply::Silent),
+        own(9, Instr::Cnot(9), 0, unknown),
+        own(0, Instr::Cnot(9), 0, unknown),
+        own(0, Instr::Cnot(0), 0, unsupported),
+        own(0, Instr::EprRecv, 0, CoreReply::Error(Fault::Timeout)),
+        own(9, Instr::Measure, 0, unknown),
+        own(
+            0,
+            Instr::Epr(remote(2)),
+            0,
+            CoreReply::Error(Fault::General),
+        ),
+    ];
+    assert_eq!(rt; first_wrong(rt.alloc(), two_nodes(2, 1), &cases)?, None);
+    Ok(())
+}
+
+#[test]
 fn a_waiting_qubit_takes_room(rt: HostRuntime) -> Result<(), Fail> {
     let cases = [
         own(0, Instr::New, 0, CoreReply::New(0)),
@@ -302,12 +327,18 @@ fn a_teleported_qubit_is_the_sent_one(rt: HostRuntime) -> Result<(), Fail> {
     Ok(())
 }
 
-// Eight nodes, and the most that a network may hold.
-fn eight_nodes() -> Shape {
-    let at = |port: u16| Place {
+// The place at a port.
+fn at(port: u16) -> Place
+    ensures { result ≡ record { address = 2130706433; port = port } }
+{
+    Place {
         address: ADDRESS,
         port,
-    };
+    }
+}
+
+// Eight nodes, and the most that a network may hold.
+fn eight_nodes() -> Shape {
     let places = [
         at(8821),
         at(8822),
@@ -350,6 +381,31 @@ fn all_of_128_live_qubits_are_turned(rt: HostRuntime) -> Result<(), Fail> {
     }
     for node in 0..8 {
         assert!(rt; is_turned(&mut network, rt.alloc(), node)?);
+    }
+    Ok(())
+}
+
+// Whether a network opens, and makes a qubit at its last node.
+fn makes_one_at_its_end(alloc: Global, shape: Shape) -> Result<bool, AllocError> {
+    let last = shape.nodes().saturating_sub(1);
+    let mut network = Network::open(alloc, shape)?;
+    let reply = network.reply(alloc, &call(last, 1, 0, Instr::New), 0)?;
+    Ok(reply == Some(CoreReply::New(0)))
+}
+
+#[test]
+fn networks_of_three_to_seven_nodes_open(rt: HostRuntime) -> Result<(), Fail> {
+    let [a, b, c] = [at(8821), at(8822), at(8823)];
+    let [d, e, f, g] = [at(8824), at(8825), at(8826), at(8827)];
+    let shapes = [
+        Shape::new(&[a, b, c], 16, 12),
+        Shape::new(&[a, b, c, d], 16, 12),
+        Shape::new(&[a, b, c, d, e], 16, 12),
+        Shape::new(&[a, b, c, d, e, f], 16, 12),
+        Shape::new(&[a, b, c, d, e, f, g], 16, 12),
+    ];
+    for shape in shapes {
+        assert!(rt; makes_one_at_its_end(rt.alloc(), shape)?);
     }
     Ok(())
 }

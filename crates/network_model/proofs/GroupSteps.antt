@@ -37,7 +37,7 @@ pub record AreGroups (limit : ℕ) (v : Vector) (live : List ℕ) (label : ℕ �
   pub groups : (q : ℕ) → is_listed live q ≡ true → IsSmall limit v (members live label (label q))
 
 -- numbers that are counted once are distinct
-distinct_once : (g : List ℕ) → ((q : ℕ) → count_by (λ p. p == q) g ≤ 1) → AreDistinct g
+pub distinct_once : (g : List ℕ) → ((q : ℕ) → count_by (λ p. p == q) g ≤ 1) → AreDistinct g
 distinct_once [] once = tt
 distinct_once (x ∷ xs) once = (
   unlisted (is_listed xs x) refl,

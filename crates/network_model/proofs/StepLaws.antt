@@ -1,24 +1,22 @@
 -- The step respects equality up to scale and phase.
-use Rattle.std.proofs.Common.{◌≡◌, ℕ, ◌^◌, ◌/◌, Bool, true, false, cond, List, [], ◌∷◌, Option, refl, sym, ap, subst, ◌∙◌}
+use Rattle.std.proofs.Common.{◌≡◌, ℕ, ◌^◌, Bool, true, false, cond, List, [], ◌∷◌, refl, sym, ap, subst, ◌∙◌}
 use Rattle.state_model.specs.Coefficient.{zero_coefficient}
 use Rattle.state_model.specs.StateVector.{Vector, IsSameState, HasSizeAtLeast}
 use Rattle.state_model.specs.Gate.{matrix, gate, two_gate}
 use Rattle.state_model.specs.Measurement.{keep, raised, paired}
 use Rattle.network_model.specs.Network.{Network, Shape, Waiting, members, group_of, held_number, queue, load}
-use Rattle.network_model.specs.Step.{Stepped, effect, effect_of, refusal, operand, own_number, other_number, united_group, remote_node, outcome_of, taken_out, left_as, received, received_first, pair_reply, quiet, after_gate, after_two, least_id, pair_info, IsTooLarge, IsReply}
+use Rattle.network_model.specs.Kinds.{kind_of}
+use Rattle.network_model.specs.Step.{Stepped, effect, effect_of, refusal, refusal_of, operand, own_number, other_number, united_group, remote_node, outcome_of, measured, measured_reply, taken_out, left_as, received, received_first, quiet, after_gate, after_two, least_id, pair_info, IsTooLarge, IsReply}
 use Rattle.network_model.specs.Laws.{DiffersInVector, StepRespectsSameStates}
-use Rattle.cqc_model.specs.declared.Instr.{Instr}
-use Rattle.cqc_model.specs.declared.Instr.TheVariants.{I, New, Measure, MeasureInplace, Reset, Send, Recv, Epr, EprRecv, X, Z, Y, T, RotX, RotY, RotZ, H, K, Cnot, Cphase, Allocate, Release}
+use Rattle.network_model.specs.declared.Kind.{Kind}
+use Rattle.network_model.specs.declared.Kind.TheVariants.{Idle, Gate as OneGate, Inexact, Two as TwoGate, Measure, Make, Pair, Send, Receive, Unrolled}
+use Rattle.network_model.specs.declared.After.TheVariants.{TakenOut, Left, Cleared}
+use Rattle.network_model.specs.declared.After.{After}
 use Rattle.network_model.specs.declared.Line.{Line}
-use Rattle.network_model.specs.declared.Line.TheVariants as line
-use Rattle.cqc_model.specs.declared.PairInfo.{PairInfo}
 use Rattle.state_model.specs.declared.Gate.{Gate}
-use Rattle.state_model.specs.declared.Gate.TheVariants as gates
 use Rattle.state_model.specs.declared.Two.{Two}
-use Rattle.state_model.specs.declared.Two.TheVariants as twos
 use Rattle.network_model.specs.declared.Call.{Call}
 use Rattle.network_model.specs.declared.CoreReply.{CoreReply}
-use Rattle.network_model.specs.declared.CoreReply.TheVariants as reply
 use Rattle.state_model.proofs.SameStates.{same_after, same_symmetric}
 use Rattle.state_model.proofs.Linear.{gate-IsHomogeneous, keep-IsHomogeneous, paired-IsHomogeneous, two_gate-IsHomogeneous, raised_keep-IsHomogeneous}
 use Rattle.state_model.proofs.Draws.{same_draw}
@@ -42,7 +40,7 @@ module _ (shape : Shape) (s : Network) (u : Vector) (c : Call) (some : ¬ ((x : 
   outcome_same word = same_draw s.live s.vector u (own_number s c) word some same
 
   refusal_same : refusal shape t c ≡ refusal shape s c
-  unfolding t over refusal operand own_number held_number load other_number united_group queue remote_node
+  unfolding t over refusal refusal_of operand own_number held_number load other_number united_group queue remote_node
   refusal_same = refl
 
   kept : (q : ℕ) (a b : Bool) → a ≡ b → IsSameState (keep q a s.vector) (keep q b u)
@@ -78,43 +76,37 @@ module _ (shape : Shape) (s : Network) (u : Vector) (c : Call) (some : ¬ ((x : 
           (same_after (λ v. raised q (keep q (outcome_of s c word) v)) (raised_keep-IsHomogeneous q (outcome_of s c word)) s.vector u some same)
       by false = kept q _ _ (outcome_same word)
 
-  received_first_same : (l : Line) (answer : ℕ → Option PairInfo → CoreReply) (es : List Waiting) → SameStepped (received_first s c l answer es) (received_first t c l answer es)
+  received_first_same : (l : Line) (es : List Waiting) → SameStepped (received_first s c l es) (received_first t c l es)
   unfolding t over received_first least_id
-  received_first_same l answer [] = record { state = record { vector = same; rest = refl }; reply = refl }
-  received_first_same l answer (e ∷ es) = record { state = record { vector = same; rest = refl }; reply = refl }
+  received_first_same l [] = record { state = record { vector = same; rest = refl }; reply = refl }
+  received_first_same l (e ∷ es) = record { state = record { vector = same; rest = refl }; reply = refl }
 
-  received_same : (l : Line) (answer : ℕ → Option PairInfo → CoreReply) → SameStepped (received s c l answer) (received t c l answer)
+  received_same : (l : Line) → SameStepped (received s c l) (received t c l)
   unfolding t over received queue
-  received_same l answer = received_first_same l answer (queue s c.node c.app l)
+  received_same l = received_first_same l (queue s c.node c.app l)
 
   still : DiffersInVector s t
   unfolding t over
   still = record { vector = same; rest = refl }
 
-  effect_same : (word : ℕ) (i : Instr) → SameStepped (effect_of shape s c word i) (effect_of shape t c word i)
+  measured_same : (word : ℕ) (after : After) → DiffersInVector (measured s c word after) (measured t c word after)
+  unfolding measured
+  measured_same word TakenOut = taken_same word
+  measured_same word Left = left_same word _ _ (outcome_same word)
+  measured_same word Cleared = left_same word false false refl
+
+  effect_same : (word : ℕ) (k : Kind) → SameStepped (effect_of shape s c word k) (effect_of shape t c word k)
   unfolding t over effect_of quiet own_number operand held_number least_id pair_info
-  effect_same word I = record { state = still; reply = refl }
-  effect_same word New = record { state = record { vector = same; rest = refl }; reply = refl }
-  effect_same word X = gate_same gates.X
-  effect_same word Y = gate_same gates.Y
-  effect_same word Z = gate_same gates.Z
-  effect_same word T = gate_same gates.T
-  effect_same word H = gate_same gates.H
-  effect_same word K = gate_same gates.K
-  effect_same word (RotX step) = gate_same (gates.RotX (step / 32))
-  effect_same word (RotY step) = gate_same (gates.RotY (step / 32))
-  effect_same word (RotZ step) = gate_same (gates.RotZ (step / 32))
-  effect_same word (Cnot id) = two_same twos.Cnot id
-  effect_same word (Cphase id) = two_same twos.Cphase id
-  effect_same word Measure = record { state = taken_same word; reply = ap reply.Outcome (outcome_same word) }
-  effect_same word MeasureInplace = record { state = left_same word _ _ (outcome_same word); reply = ap reply.Outcome (outcome_same word) }
-  effect_same word Reset = record { state = left_same word false false refl; reply = refl }
-  effect_same word Release = record { state = taken_same word; reply = refl }
+  effect_same word Idle = record { state = still; reply = refl }
+  effect_same word (OneGate g) = gate_same g
+  effect_same word Inexact = record { state = still; reply = refl }
+  effect_same word (TwoGate g id) = two_same g id
+  effect_same word (Measure after told) = record { state = measured_same word after; reply = ap (measured_reply told) (outcome_same word) }
+  effect_same word Make = record { state = record { vector = same; rest = refl }; reply = refl }
+  effect_same word (Pair r) = record { state = record { vector = same_after (paired _ _) (paired-IsHomogeneous _ _) s.vector u some same; rest = refl }; reply = refl }
   effect_same word (Send r) = record { state = record { vector = same; rest = refl }; reply = refl }
-  effect_same word (Epr r) = record { state = record { vector = same_after (paired _ _) (paired-IsHomogeneous _ _) s.vector u some same; rest = refl }; reply = refl }
-  effect_same word Recv = received_same line.Sent (λ id info. reply.Received id)
-  effect_same word EprRecv = received_same line.Pair pair_reply
-  effect_same word Allocate = record { state = still; reply = refl }
+  effect_same word (Receive l) = received_same l
+  effect_same word Unrolled = record { state = still; reply = refl }
 
 -- groups do not depend on the vector
 same_group : (s t : Network) (q : ℕ) → t ≡ record s { vector = t.vector } → group_of t q ≡ group_of s q
@@ -129,11 +121,11 @@ large_back a b q n d large = same_size b.vector a.vector (group_of a q) n (same_
 
 too_large_along : (shape : Shape) (s : Network) (u : Vector) (c : Call) → ¬ ((x : ℕ) → s.vector x ≡ zero_coefficient) → IsSameState s.vector u → IsTooLarge shape s c → IsTooLarge shape (over s u) c
 unfolding IsTooLarge effect t over own_number operand held_number
-too_large_along shape s u c some same large = (large.0, large_along _ _ (own_number s c) (2 ^ 60) ((effect_same shape s u c some same 0 c.command.instr).state) (large.1))
+too_large_along shape s u c some same large = (large.0, large_along _ _ (own_number s c) (2 ^ 60) ((effect_same shape s u c some same 0 (kind_of c.command.instr)).state) (large.1))
 
 too_large_back : (shape : Shape) (s : Network) (u : Vector) (c : Call) → ¬ ((x : ℕ) → s.vector x ≡ zero_coefficient) → IsSameState s.vector u → IsTooLarge shape (over s u) c → IsTooLarge shape s c
 unfolding IsTooLarge effect t over own_number operand held_number
-too_large_back shape s u c some same large = (large.0, large_back _ _ (own_number s c) (2 ^ 60) ((effect_same shape s u c some same 0 c.command.instr).state) (large.1))
+too_large_back shape s u c some same large = (large.0, large_back _ _ (own_number s c) (2 ^ 60) ((effect_same shape s u c some same 0 (kind_of c.command.instr)).state) (large.1))
 
 -- the law of the step
 pub step_respects_same_states : StepRespectsSameStates
@@ -144,7 +136,7 @@ step_respects_same_states shape s t c word some d =
   where
     main : (u : Vector) → IsSameState s.vector u → ((r : CoreReply) → IsReply shape s c word r → IsReply shape (over s u) c word r) × DiffersInVector ((effect shape s c word).state) ((effect shape (over s u) c word).state)
     main u same =
-        let step = effect_same shape s u c some same word c.command.instr in
+        let step = effect_same shape s u c some same word (kind_of c.command.instr) in
         let e = refusal_same shape s u c some same in (
           λ r h. record {
             refused = λ f g. h.refused f (sym e ∙ g);

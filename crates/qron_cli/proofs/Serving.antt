@@ -1,8 +1,9 @@
 -- A session over the program's core is one connection that takes turns alone.
-use Rattle.std.proofs.Common.{◌≡◌, ◌≢◌, ◌⊎◌, inl, inr, ℕ, ◌≤◌, List, [], ◌++◌, length, Option, None, refl, sym, ap, subst, ◌∙◌, arith}
+use Rattle.std.proofs.Common.{◌≡◌, ◌≢◌, ℕ, ◌≤◌, List, [], ◌++◌, length, Option, None, refl, sym, ap, subst, ◌∙◌, arith}
 use Rattle.std.specs.Prelude.{nat_lt, ◌&&◌, if◌then◌else◌, Bool, true, false}
 use Rattle.std.proofs.lemmas.List.{append-nil}
 use Rattle.cqc_model.specs.Plan.{messages}
+use Rattle.network_model.specs.Network.{Shape}
 use Rattle.network_model.specs.History.{IsLegal}
 use Rattle.network_model.specs.declared.Call.{Call}
 use Rattle.network_model.specs.declared.Entry.{Entry}
@@ -14,11 +15,14 @@ use Rattle.session_model.specs.Turns.{Actor, own, said_by, fits_room, turn_call}
 use Rattle.session_model.specs.Worded.{AreWorded}
 use Rattle.session_model.proofs.TurnLaws.{full}
 use Rattle.session_model.proofs.Spoken.{own_front, spoken_entries_are_turns}
-use Rattle.qron_link.specs.Outside.{Rose}
 use Rattle.cqc_session.specs.Session.{EndCause}
-use Rattle.cqc_session.specs.Serving.{Served}
-use Rattle.qron_cli.specs.Pipe.{node_shape, pipe_connection, journal_capacity}
-use Rattle.qron_cli.specs.Program.{PipeServed, PipeAnswered, status_of, pipe_setting, pipe_actor, read_limit}
+use Rattle.factored_core.specs.Core.{Journal}
+use Rattle.cqc_session.specs.State.{State, begun}
+use Rattle.cqc_session.specs.Serving.{Served, WordedAfter}
+use Rattle.qron_cli.specs.Pipe.{node_shape, pipe_connection, pipe_journal, journal_capacity}
+use Rattle.qron_cli.specs.declared.status.Status.{Status}
+use Rattle.qron_cli.specs.Statuses.{status_of}
+use Rattle.qron_cli.specs.Program.{Seen, PipeServed, PipeAnswered, pipe_setting, pipe_actor, read_limit}
 
 abbrev nobody : Option Call
 nobody = None
@@ -57,51 +61,58 @@ module _ (words : ℕ → ℕ) (rest : Option (List ℕ)) (read written : List �
   last_turn other = last_by ending speaks.ends other
 
 -- what a session over the core did
-pub served_pipe : (words : ℕ → ℕ) (left rest held wrote : Option (List ℕ)) (old new : List Entry) (ending : Ending)
-    → Served pipe_connection read_limit left rest held wrote old new (length new) journal_capacity ending → old ≡ []
-    → IsLegal node_shape new → AreWorded words new → length new ≤ journal_capacity → PipeServed words left rest held wrote ending
-served_pipe words left rest held wrote old new ending s empty legal worded few =
-    let is : new ≡ s.entries = s.added ∙ ap (λ (x : List Entry). x ++ s.entries) empty in
-    let speaks : Speaks (pipe_setting rest new) s.read new s.written ending =
-    subst (λ (es : List Entry). Speaks (pipe_setting rest new) s.read es s.written ending) (sym is) s.speaks in
+served_pipe : (words : ℕ → ℕ) (old new : Seen) (after : List Entry) (ending : Ending)
+    → Served pipe_connection read_limit old.left new.left old.held new.held [] after (length after) journal_capacity ending
+    → EndCause ending old.read_faults new.read_faults old.write_faults new.write_faults
+    → IsLegal node_shape after → AreWorded words after → length after ≤ journal_capacity → PipeServed words old new ending
+served_pipe words old new after ending s cause legal worded few =
+    let speaks : Speaks (pipe_setting new.left after) s.read after s.written ending =
+    subst (λ (es : List Entry). Speaks (pipe_setting new.left after) s.read es s.written ending) (sym s.added) s.speaks in
     record {
       read = s.read;
       written = s.written;
-      entries = new;
+      entries = after;
       was_read = s.took;
+      few = s.few;
       was_written = s.gave;
+      cause = cause;
       speaks = speaks;
-      turns = spoken_entries_are_turns node_shape journal_capacity (pipe_actor words s.read) new _ refl few speaks.asked legal worded;
-      last = last_turn words rest s.read s.written new ending few speaks;
+      turns = spoken_entries_are_turns node_shape journal_capacity (pipe_actor words s.read) after _ refl few speaks.asked legal worded;
+      last = last_turn words new.left s.read s.written after ending few speaks;
       legal = legal;
       worded = worded;
     }
 
+-- entries with the next words, behind none
+worded_alone : (words : ℕ → ℕ) (after : List Entry) (taken : ℕ) → WordedAfter words [] after taken → AreWorded words after
+worded_alone words after taken w = subst (AreWorded words) (sym w.added) w.worded
+
+-- the same of the journal that it began with, and of the session
+pub journal_served : (f : ℕ → ℕ → ℕ → ℕ) (old new : Seen) (before after : Journal) (s : State) (ending : Ending) (taken : ℕ)
+    → before ≡ pipe_journal [] → s ≡ begun pipe_connection read_limit
+    → Served s.connection s.cap old.left new.left old.held new.held before.entries after.entries (length after.entries) before.capacity ending
+    → EndCause ending old.read_faults new.read_faults old.write_faults new.write_faults
+    → WordedAfter (λ k. f s.connection.seat s.connection.serial k) before.entries after.entries taken
+    → after ≡ record before { entries = after.entries } → IsLegal after.shape after.entries → length after.entries ≤ after.capacity
+    → PipeServed (λ k. f 0 0 k) old new ending
+journal_served f old new before after s ending taken empty fresh served cause worded stays legal few =
+    let is : after ≡ pipe_journal after.entries = stays ∙ ap (λ (j : Journal). record j { entries = after.entries }) empty in
+    let by_session = subst (λ (t : State). Served t.connection t.cap old.left new.left old.held new.held before.entries after.entries (length after.entries) before.capacity ending) fresh served in
+    let by_journal = subst (λ (j : Journal). Served pipe_connection read_limit old.left new.left old.held new.held j.entries after.entries (length after.entries) j.capacity ending) empty by_session in
+    let words_by_session = subst (λ (t : State). WordedAfter (λ k. f t.connection.seat t.connection.serial k) before.entries after.entries taken) fresh worded in
+    let words_by_journal = subst (λ (j : Journal). WordedAfter (λ k. f 0 0 k) j.entries after.entries taken) empty words_by_session in
+    served_pipe (λ k. f 0 0 k) old new after.entries ending by_journal cause
+    (subst (λ (x : Shape). IsLegal x after.entries) (ap Journal.shape is) legal)
+    (worded_alone (λ k. f 0 0 k) after.entries taken words_by_journal)
+    (subst (λ n. length after.entries ≤ n) (ap Journal.capacity is) few)
+
 -- the same for the words of another key, and for the pipe as the house has it
-pub answered : (f : List ℕ → ℕ → ℕ) (key asked : List ℕ) (left rest held wrote left' rest' held' wrote' : Option (List ℕ)) (ending : Ending) (status : ℕ)
-    → PipeServed (f key) left rest held wrote ending → key ≡ asked → left ≡ left' → rest ≡ rest' → held ≡ held' → wrote ≡ wrote' → status ≡ status_of ending
-    → PipeAnswered (f asked) left' rest' held' wrote' status
-answered f key asked left rest held wrote left' rest' held' wrote' ending status served e a b c d is = (
+pub answered : (f : List ℕ → ℕ → ℕ) (key asked : List ℕ) (old new old' new' : Seen) (ending : Ending) (status : Status)
+    → PipeServed (f key) old new ending → key ≡ asked → old ≡ old' → new ≡ new' → status ≡ status_of ending
+    → PipeAnswered (f asked) old' new' status
+answered f key asked old new old' new' ending status served e a b is = (
   ending,
-  subst (λ (x : List ℕ). PipeServed (f x) left' rest' held' wrote' ending) e
-      (subst (λ (x : Option (List ℕ)). PipeServed (f key) x rest' held' wrote' ending) a
-      (subst (λ (x : Option (List ℕ)). PipeServed (f key) left x held' wrote' ending) b
-      (subst (λ (x : Option (List ℕ)). PipeServed (f key) left rest x wrote' ending) c
-      (subst (λ (x : Option (List ℕ)). PipeServed (f key) left rest held x ending) d served)))),
+  subst (λ (x : List ℕ). PipeServed (f x) old' new' ending) e
+      (subst (λ (x : Seen). PipeServed (f key) x new' ending) a (subst (λ (x : Seen). PipeServed (f key) old x ending) b served)),
   is,
 )
-
--- a fault's status comes of a fault
-pub fault_rose : (ending : Ending) (status reads now_reads writes now_writes : ℕ) → status ≡ status_of ending → EndCause ending reads now_reads writes now_writes
-    → status ≡ 4 → Rose reads now_reads ⊎ Rose writes now_writes
-fault_rose ReadFault status reads now_reads writes now_writes is cause four = inl cause.2
-fault_rose WriteFault status reads now_reads writes now_writes is cause four = inr cause.2
-fault_rose Clean status reads now_reads writes now_writes is cause four = absurd (omega arith)
-fault_rose (Cut have need) status reads now_reads writes now_writes is cause four = absurd (omega arith)
-fault_rose (Spent bytes) status reads now_reads writes now_writes is cause four = absurd (omega arith)
-fault_rose (Full entries) status reads now_reads writes now_writes is cause four = absurd (omega arith)
-
--- the same counts, as the house has them
-pub rose_at : (a b c d a' b' c' d' : ℕ) → a ≡ a' → b ≡ b' → c ≡ c' → d ≡ d' → Rose a b ⊎ Rose c d → Rose a' b' ⊎ Rose c' d'
-rose_at a b c d a' b' c' d' e f g h (inl r) = inl (subst (λ (x : ℕ). Rose x b') e (subst (λ (x : ℕ). Rose a x) f r))
-rose_at a b c d a' b' c' d' e f g h (inr r) = inr (subst (λ (x : ℕ). Rose x d') g (subst (λ (x : ℕ). Rose c x) h r))

@@ -1,23 +1,25 @@
--- The pipe's network, its one connection, and what the program's core keeps.
-use Rattle.std.specs.Prelude.{◌≡◌, ℕ, ◌≤◌, List, [], ◌∷◌, length, All}
+-- The pipe's network, its one connection, and its journal.
+use Rattle.std.specs.Prelude.{ℕ, List, [], ◌∷◌}
 use Rattle.network_model.specs.Network.{Shape}
-use Rattle.network_model.specs.declared.Call.{Call}
 use Rattle.network_model.specs.declared.Entry.{Entry}
-use Rattle.session_model.specs.Walk.{Connection, call_of}
-use Rattle.session_model.specs.Worded.{AreWorded}
+use Rattle.session_model.specs.Walk.{Connection}
 use Rattle.factored_core.specs.Core.{Journal}
 
--- 127.0.0.1 at port 8821, room for 16 qubits, and groups of at most 12
+-- the most qubits at a node
+abbrev pub node_room : ℕ
+node_room = 16
+
+-- the most qubits of a group
+abbrev pub group_limit : ℕ
+group_limit = 12
+
+-- one node, at 127.0.0.1 and port 8821
 abbrev pub node_shape : Shape
-node_shape = record { places = record { address = 2130706433; port = 8821 } ∷ []; room = 16; limit = 12 }
+node_shape = record { places = record { address = 2130706433; port = 8821 } ∷ []; room = node_room; limit = group_limit }
 
 -- the one connection
 abbrev pub pipe_connection : Connection
 pipe_connection = record { seat = 0; serial = 0; node = 0 }
-
--- a call of the one connection
-abbrev pub IsPipeCall : Call → Type 0
-IsPipeCall c = c ≡ call_of pipe_connection c.app c.command
 
 -- how many entries the journal may have
 abbrev pub journal_capacity : ℕ
@@ -26,21 +28,3 @@ journal_capacity = 65536
 -- the journal of the pipe's network with these entries
 abbrev pub pipe_journal : List Entry → Journal
 pipe_journal entries = record { shape = node_shape; capacity = journal_capacity; entries = entries }
-
--- what contracts see of the core: its entries, and the key of its dice
-pub record PipeEntries : Type 0 where
-  pub entries : List Entry
-  pub key : List ℕ
-
--- the dice stand at the connection's word of this number
-pub record IsAtWord (seat serial taken word : ℕ) : Type 0 where
-  pub first_seat : seat ≡ 0
-  pub first_serial : serial ≡ 0
-  pub next : taken ≡ word
-
--- the journal is the pipe's: its entries are the one connection's, with that connection's words
-pub record IsPipeJournal (words : ℕ → ℕ) (journal : Journal) : Type 0 where
-  pub is : journal ≡ pipe_journal journal.entries
-  pub ours : All (λ e. IsPipeCall e.call) journal.entries
-  pub worded : AreWorded words journal.entries
-  pub few : length journal.entries ≤ journal_capacity

@@ -1,8 +1,10 @@
 // What the program is handed of the outside.
-ghost use Rattle.std.specs.Prelude.{◌≡◌, ℕ, List};
+ghost use Rattle.std.specs.Prelude.{◌≡◌, ℕ, List, IfOk};
 ghost use Rattle.std.specs.Borrow.{sem, Lends};
 
+use crate::status::Status;
 use qron_link::{Dice, Link};
+use std::alloc::AllocError;
 
 /// What the program is handed of the outside.
 pub trait House {
@@ -16,9 +18,6 @@ pub trait House {
     /// The house with another pipe.
     ghost with_pipe: { Self → Self.Pipe → Self };
 
-    /// How often a call of the house has failed.
-    ghost house_faults: { Self → ℕ };
-
     /// The key of the dice for each seed.
     ghost keys: { Self → List ℕ → List ℕ };
 
@@ -28,21 +27,17 @@ pub trait House {
         ensures value { result.now ≡ pipe_of self.old };
 
     /// Dice with the key of a seed.
-    fn dice(&mut self, seed: &[u8; 32]) -> Self::Dice
-        ensures key { Self.Dice.key result ≡ keys self.old seed.now }
+    fn dice(&mut self, seed: &[u8; 32]) -> Result<Self::Dice, AllocError>
+        ensures key { IfOk result (λ dice. Self.Dice.key dice ≡ keys self.old seed.now) }
         ensures keys { keys self.new ≡ keys self.old }
-        ensures pipe { pipe_of self.new ≡ pipe_of self.old }
-        ensures faults { house_faults self.new ≡ house_faults self.old };
+        ensures pipe { pipe_of self.new ≡ pipe_of self.old };
 
-    /// Writes one line to standard error. Nothing is promised of it.
-    fn complain(&mut self, line: &[u8])
+    /// Writes what is said of a status, if anything, as a line to standard error. Nothing is promised of it.
+    fn complain(&mut self, status: Status)
         ensures keys { keys self.new ≡ keys self.old }
-        ensures pipe { pipe_of self.new ≡ pipe_of self.old }
-        ensures faults { house_faults self.new ≡ house_faults self.old };
+        ensures pipe { pipe_of self.new ≡ pipe_of self.old };
 
     ghost pipe_is_put: { (house : Self) (pipe : Self.Pipe) → pipe_of (with_pipe house pipe) ≡ pipe };
 
     ghost keys_stay: { (house : Self) (pipe : Self.Pipe) → keys (with_pipe house pipe) ≡ keys house };
-
-    ghost faults_stay: { (house : Self) (pipe : Self.Pipe) → house_faults (with_pipe house pipe) ≡ house_faults house };
 }

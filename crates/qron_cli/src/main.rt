@@ -6,35 +6,50 @@ mod circuit_tests;
 mod house;
 #[cfg(test)]
 mod mem_house;
-mod pipe_core;
+mod pipe_network;
 mod program;
 mod real;
 #[cfg(test)]
+mod real_tests;
+mod status;
+#[cfg(test)]
 mod tests;
 
-use crate::real::RealHouse;
+use crate::real::{RealHouse, complain};
+use crate::status::Status;
 use qron_link::StdPipe;
 use std::env;
-use std::io::Write;
 use std::process::ExitCode;
 
 fn main(rt: HostRuntime) -> ExitCode {
-    let mut words = Vec::new(rt.alloc());
-    let Ok(args) = env::args(&rt) else {
-        let _ = rt.stderr().write_all(b"qron: words\n");
-        return ExitCode::from(2);
+    let status = match open(&rt) {
+        Ok(Outside { words, mut house }) => {
+            let status = program::run(rt.alloc(), &words, &mut house);
+            house.finish(status)
+        }
+        Err(status) => {
+            complain(&mut rt.stderr(), status);
+            status
+        }
     };
-    for word in args.skip(1) {
+    ExitCode::from(status.code())
+}
+
+// The words after the program's name, and the real outside.
+#[derive(Drop)]
+struct Outside {
+    words: Vec<String>,
+    house: RealHouse,
+}
+
+fn open(rt: &HostRuntime) -> Result<Outside, Status> {
+    let mut words = Vec::new(rt.alloc());
+    for word in env::args(rt)?.skip(1) {
         if words.push(word).is_err() {
-            let _ = rt.stderr().write_all(b"qron: memory\n");
-            return ExitCode::from(3);
+            return Err(Status::Memory);
         }
     }
-    let Ok(pipe) = StdPipe::new(rt.alloc(), rt.stdin(), rt.stdout()) else {
-        let _ = rt.stderr().write_all(b"qron: memory\n");
-        return ExitCode::from(3);
-    };
-    let mut house = RealHouse::new(pipe, rt.stderr());
-    let status = program::run(rt.alloc(), &words, &mut house);
-    ExitCode::from(house.finish(status))
+    let pipe = StdPipe::new(rt.alloc(), rt.stdin(), rt.stdout())?;
+    let house = RealHouse::new(pipe, rt.stderr());
+    Ok(Outside { words, house })
 }

@@ -1,8 +1,7 @@
 // What the program answers to given bytes, words and faults.
-use crate::mem_house::{Given, MOST, MemHouse, faultless, run_with};
-use crate::program::run;
+use crate::mem_house::{Given, MOST, answer_with, done, ended, faultless, first_wrong, spelled};
+use crate::status::Status;
 use hex::decode;
-use qron_link::MemLink;
 use std::test::Fail;
 
 #[test]
@@ -65,19 +64,7 @@ fn hello_and_commands_are_answered(rt: HostRuntime) -> Result<(), Fail> {
         // no command
         ("0201000000000000", [0, 0], ""),
     ];
-    for (input, words, output) in cases {
-        for piece in [1, 2, 7, 65_536] {
-            let answer = run_with(
-                rt.alloc(),
-                decode(rt.alloc(), input)?,
-                faultless(words),
-                &["pipe"],
-                piece,
-            )?;
-            assert_eq!(rt; answer.status, 0, "{input}");
-            assert_eq!(rt; answer.output.as_str(), output, "{input}");
-        }
-    }
+    assert_eq!(rt; first_wrong(rt.alloc(), &cases, &[1, 2, 7, 65_536])?, None);
     Ok(())
 }
 
@@ -134,17 +121,7 @@ fn every_instruction_on_one_qubit_is_answered(rt: HostRuntime) -> Result<(), Fai
             "020a0000000000020000020700000000000100020a0000000000020000",
         ),
     ];
-    for (input, words, output) in cases {
-        let answer = run_with(
-            rt.alloc(),
-            decode(rt.alloc(), input)?,
-            faultless(words),
-            &["pipe"],
-            7,
-        )?;
-        assert_eq!(rt; answer.status, 0, "{input}");
-        assert_eq!(rt; answer.output.as_str(), output, "{input}");
-    }
+    assert_eq!(rt; first_wrong(rt.alloc(), &cases, &[7])?, None);
     Ok(())
 }
 
@@ -152,33 +129,26 @@ fn every_instruction_on_one_qubit_is_answered(rt: HostRuntime) -> Result<(), Fai
 fn refused_messages_have_one_error(rt: HostRuntime) -> Result<(), Fail> {
     let cases = [
         // a command cut short by its body: nothing of it is executed
-        ("0201000000000006000001000000", "0214000000000000"),
+        ("0201000000000006000001000000", [0, 0], "0214000000000000"),
         (
             "0201000000000006000001000000020100000000000400000100",
+            [0, 0],
             "0214000000000000020a0000000000020000",
         ),
         // other versions and types
-        ("0100000000000000", "0216000000000000"),
-        ("0208000000000000", "0216000000000000"),
-        ("0203000000000000", "0216000000000000"),
-        ("020b000000000000", "0216000000000000"),
+        ("0100000000000000", [0, 0], "0216000000000000"),
+        ("0208000000000000", [0, 0], "0216000000000000"),
+        ("0203000000000000", [0, 0], "0216000000000000"),
+        ("020b000000000000", [0, 0], "0216000000000000"),
         // an instruction that is no instruction, and the option ACTION
-        ("02010000000000080000010000000900", "0216000000000000"),
-        ("020100000000000400000102", "0216000000000000"),
+        (
+            "02010000000000080000010000000900",
+            [0, 0],
+            "0216000000000000",
+        ),
+        ("020100000000000400000102", [0, 0], "0216000000000000"),
     ];
-    for (input, output) in cases {
-        for piece in [1, 7] {
-            let answer = run_with(
-                rt.alloc(),
-                decode(rt.alloc(), input)?,
-                faultless([0, 0]),
-                &["pipe"],
-                piece,
-            )?;
-            assert_eq!(rt; answer.status, 0, "{input}");
-            assert_eq!(rt; answer.output.as_str(), output, "{input}");
-        }
-    }
+    assert_eq!(rt; first_wrong(rt.alloc(), &cases, &[1, 7])?, None);
     Ok(())
 }
 
@@ -191,23 +161,15 @@ fn cut_input_ends_with_a_status(rt: HostRuntime) -> Result<(), Fail> {
         ("020000070000000002", "0200000700000000"),
     ];
     for (input, output) in cases {
-        let answer = run_with(
-            rt.alloc(),
-            decode(rt.alloc(), input)?,
-            faultless([0, 0]),
-            &["pipe"],
-            2,
-        )?;
-        assert_eq!(rt; answer.status, 5, "{input}");
-        assert_eq!(rt; answer.output.as_str(), output, "{input}");
-        assert!(rt; answer.said.is_empty(), "{input}");
+        let alloc = rt.alloc();
+        let got = answer_with(alloc, decode(alloc, input)?, faultless([0, 0], 2))?;
+        assert_eq!(rt; got, ended(alloc, Status::Unfinished, output)?, "{input}");
     }
     Ok(())
 }
 
 #[test]
 fn faults_are_told(rt: HostRuntime) -> Result<(), Fail> {
-    let new = "020100000000000400000101";
     // the first read, the first write and the second
     let cases = [
         (Some(0), None, ""),
@@ -215,34 +177,29 @@ fn faults_are_told(rt: HostRuntime) -> Result<(), Fail> {
         (None, Some(1), "020a0000000000020000"),
     ];
     for (bad_read, bad_write, output) in cases {
-        let faulty = Given {
+        let alloc = rt.alloc();
+        let given = Given {
             bad_read,
             bad_write,
-            words: [0, 0],
+            ..faultless([0, 0], 7)
         };
-        let answer = run_with(rt.alloc(), decode(rt.alloc(), new)?, faulty, &["pipe"], 7)?;
-        assert_eq!(rt; answer.status, 4, "{output}");
-        assert_eq!(rt; answer.output.as_str(), output);
-        assert_eq!(rt; answer.said.as_slice(), b"qron: fault".as_slice());
+        let got = answer_with(alloc, decode(alloc, "020100000000000400000101")?, given)?;
+        assert_eq!(rt; got, ended(alloc, Status::Fault, output)?);
     }
     Ok(())
 }
 
 #[test]
 fn other_words_are_refused(rt: HostRuntime) -> Result<(), Fail> {
-    let hello = "0200000700000000";
     let none: [&str; 0] = [];
     for args in [none.as_slice(), &["dance"], &["--help"], &["pipe", "x"]] {
-        let answer = run_with(
-            rt.alloc(),
-            decode(rt.alloc(), hello)?,
-            faultless([0, 0]),
+        let alloc = rt.alloc();
+        let given = Given {
             args,
-            7,
-        )?;
-        assert_eq!(rt; answer.status, 2);
-        assert_eq!(rt; answer.output.as_str(), "");
-        assert_eq!(rt; answer.said.as_slice(), b"qron: words".as_slice());
+            ..faultless([0, 0], 7)
+        };
+        let got = answer_with(alloc, decode(alloc, "0200000700000000")?, given)?;
+        assert_eq!(rt; got, ended(alloc, Status::Words, "")?);
     }
     Ok(())
 }
@@ -251,23 +208,17 @@ fn other_words_are_refused(rt: HostRuntime) -> Result<(), Fail> {
 fn long_body_is_passed_over(rt: HostRuntime) -> Result<(), Fail> {
     let alloc = rt.alloc();
     // a COMMAND of 65,537 bytes, and a HELLO behind it
-    let mut input = decode(alloc, "0201000000010001")?;
-    for _ in 0..65_537 {
-        input.push(0)?;
-    }
-    input.extend_from_slice(&[2, 0, 0, 7, 0, 0, 0, 0])?;
-    let pipe = MemLink::new(alloc, input, 4096, 256, Vec::new(alloc), Vec::new(alloc))?;
-    let mut house = MemHouse {
-        pipe,
-        words: [0, 0],
-        said: Vec::new(alloc),
-    };
-    let mut words = Vec::new(alloc);
-    words.push(String::from_str(alloc, "pipe")?)?;
-    assert_eq!(rt; run(alloc, &words, &mut house), 0);
+    let input = spelled(
+        alloc,
+        &[
+            ("0201000000010001", 1),
+            ("00", 65_537),
+            ("0200000700000000", 1),
+        ],
+    )?;
     assert_eq!(rt;
-        house.pipe.written(),
-        decode(alloc, "02140000000000000200000700000000")?.as_slice()
+        answer_with(alloc, input, faultless([0, 0], 4096))?,
+        done(alloc, &[("02140000000000000200000700000000", 1)])?
     );
     Ok(())
 }

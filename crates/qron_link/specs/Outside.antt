@@ -52,3 +52,9 @@ abbrev pub SameTold : Option (List ℕ) → Option (List ℕ) → Type 0
 SameTold None None = Unit {0}
 SameTold (Some a) (Some b) = Unit {0}
 SameTold _ _ = ⊥
+
+-- so many bytes were written: where the room is told, they fitted it, and it is smaller by them
+abbrev pub RoomTaken : Option ℕ → ℕ → Option ℕ → Type 0
+RoomTaken None size None = Unit {0}
+RoomTaken (Some before) size (Some now) = now + size ≡ before
+RoomTaken _ size _ = ⊥

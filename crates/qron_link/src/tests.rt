@@ -1,9 +1,5 @@
-// Links in memory, dice, and pipes over a reader and a writer of the tests' own.
+// Links in memory, and dice.
 use super::*;
-use std::alloc::Global;
-use std::cell::Cell;
-use std::io::{self, ErrorKind, Write};
-use std::rc::Rc;
 
 #[test]
 fn links_hand_out_pieces_and_fail_where_listed(rt: HostRuntime) {
@@ -66,63 +62,4 @@ fn chacha_words_are_those_of_the_stream(rt: HostRuntime) {
     assert!(rt; dice.next() != first[0]);
     dice.begin(0, 0);
     assert!(rt; [dice.next(), dice.next(), dice.next()] == first);
-}
-
-// A writer that counts its calls, and fails where it is broken.
-#[derive(Drop)]
-struct Counted {
-    calls: Rc<Cell<u32>>,
-    is_broken: bool,
-}
-
-impl Write for Counted {
-    fn write(&mut self, piece: &[u8]) -> io::Result<usize> {
-        self.calls.set(self.calls.get().saturating_add(1));
-        if self.is_broken {
-            return Err(ErrorKind::BrokenPipe.into());
-        }
-        Ok(piece.len())
-    }
-
-    fn flush(&mut self) -> io::Result<()> {
-        Ok(())
-    }
-}
-
-#[test]
-fn writes_are_gathered_while_input_waits(rt: HostRuntime) {
-    let alloc = rt.alloc();
-    let calls = Rc::new(alloc, Cell::new(0)).expect(&rt, "count");
-    let output = Counted {
-        calls: calls.clone().expect(&rt, "count"),
-        is_broken: false,
-    };
-    let mut pipe = Pipe::new(alloc, io::Cursor::new([0; 24]), output).expect(&rt, "pipe");
-    let mut room = [0; 8];
-    for wanted in [0, 0, 2] {
-        assert!(rt; matches!(pipe.read(&mut room), Got::Bytes(8)));
-        assert!(rt; matches!(pipe.write(&room), Put::Bytes(8)));
-        assert_eq!(rt; calls.get(), wanted);
-    }
-    assert!(rt; matches!(pipe.read(&mut room), Got::End));
-    assert!(rt; pipe.flush().is_ok());
-}
-
-#[test]
-fn what_cannot_be_sent_is_told(rt: HostRuntime) {
-    let alloc = rt.alloc();
-    let calls = Rc::new(alloc, Cell::new(0)).expect(&rt, "count");
-    let output = Counted {
-        calls,
-        is_broken: true,
-    };
-    let mut pipe = Pipe::new(alloc, io::Cursor::new([0; 16]), output).expect(&rt, "pipe");
-    let mut room = [0; 8];
-    assert!(rt; matches!(pipe.read(&mut room), Got::Bytes(8)));
-    assert!(rt; matches!(pipe.write(&room), Put::Bytes(8)));
-    assert!(rt; matches!(pipe.read(&mut room), Got::Bytes(8)));
-    assert!(rt; matches!(pipe.read(&mut room), Got::Failed));
-    assert!(rt; matches!(pipe.write(&room), Put::Failed));
-    pipe.close();
-    assert!(rt; pipe.flush().is_err());
 }

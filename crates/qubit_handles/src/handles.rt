@@ -50,9 +50,15 @@ impl Handles {
     pub fn len(&self) -> u8
         ensures len { result ≡ length self.now }
         ensures most { result ≤ 16 }
-        ensures distinct { AreDistinct self.now }
     {
         self.list.len() as u8
+    }
+
+    /// What every list of handles keeps: no application holds two qubits under one id.
+    pub fn facts(&self)
+        ensures { AreDistinct self.now }
+    {
+        let _ = &self.list;
     }
 
     /// The number of the qubit that the application holds under the id, if it holds one.

@@ -143,7 +143,7 @@ words_push h e = sum_by-append (λ (x : Entry). if is_some x.word then 1 else 0)
     simple : (n : ℕ) → 0 + n ≡ n
     simple n = omega arith
 
-word_is : (o : Option ℕ) (words : ℕ → ℕ) (taken : ℕ) (b : Bool) → IfSome o (λ w. w ≡ words taken) → is_some o ≡ b → o ≡ (if b then Some (words taken) else None)
+pub word_is : (o : Option ℕ) (words : ℕ → ℕ) (taken : ℕ) (b : Bool) → IfSome o (λ w. w ≡ words taken) → is_some o ≡ b → o ≡ (if b then Some (words taken) else None)
 word_is None words taken b h e = ap (λ (x : Bool). if x then Some (words taken) else None) e
 word_is (Some w) words taken b h e = ap Some h ∙ ap (λ (x : Bool). if x then Some (words taken) else None) e
 

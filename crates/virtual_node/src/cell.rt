@@ -2,7 +2,7 @@
 ghost use Rattle.std.specs.Prelude.{◌≡◌, ◌+◌, ◌<◌, ◌≤◌, [], length, None, Some, IsSome, is_some, position, slice_get};
 ghost use Rattle.network_model.specs.Network.{line_eq};
 ghost use Rattle.network_model.specs.declared.Line.TheVariants.{Pair};
-ghost use Rattle.qubit_handles.specs.Handle.{number_of};
+ghost use Rattle.qubit_handles.specs.Handle.{number_of, AreDistinct};
 ghost use Rattle.virtual_node.specs.Node.{empty_node, load_of, is_waiting, look_of, with_handle, without_held, with_arrival, without_arrival};
 
 use crate::{Arrival, Look};
@@ -61,6 +61,13 @@ impl NodeCell {
         ensures most { result ≤ 16 }
     {
         self.handles.len() + self.arrivals.len() as u8
+    }
+
+    /// What every node keeps: no application holds two qubits under one id.
+    pub fn facts(&self)
+        ensures { AreDistinct self.now.handles }
+    {
+        self.handles.facts();
     }
 
     /// What is held.

@@ -1,5 +1,5 @@
 // The settings of all nodes.
-ghost use Rattle.std.specs.Prelude.{◌≡◌, ◌≢◌, ◌<◌, ◌≤◌, length, Some, AllPairs, position, slice_get};
+ghost use Rattle.std.specs.Prelude.{◌≡◌, ◌≢◌, ◌*◌, ◌<◌, ◌≤◌, length, Some, AllPairs, position, slice_get};
 ghost use Rattle.virtual_node.specs.Settings.{settings, is_place};
 
 use arrayvec::ArrayVec;
@@ -49,6 +49,17 @@ impl Shape {
             room,
             limit,
         }
+    }
+
+    /// What every network keeps: room for 1 to 16 qubits at each node, so at most 128 numbers and as many slots, and
+    /// a limit of 1 to 12.
+    pub fn facts(&self)
+        ensures slots { length self.now.places * self.now.room ≤ 128 }
+        ensures room { self.now.room ≤ 16 }
+        ensures limit { 1 ≤ self.now.limit }
+    {
+        let _ = self.nodes() * self.room();
+        let _ = self.limit();
     }
 
     /// How many nodes there are, from 1 to 8, with distinct places.

@@ -1,23 +1,11 @@
-use Rattle.std.proofs.Common.{ℕ, List, get_or, ap, refl, ◌∙◌}
-use Rattle.core_cells.proofs.Two.{set_both_back, get_front, get_back}
+use Rattle.std.proofs.Common.{refl}
+use Rattle.core_cells.proofs.Two.{set_both_back, get_both}
 use Rattle.core_cells.proofs.slice.falling.Goals as goal
 
 pub returns : goal.returns
 returns g c =
-    let xs : List g.row.T.Denot = c.args.s.now in
-    let i : ℕ = c.args.i in
-    let j : ℕ = c.args.j in
-    let front = c.split_at_mut-b.ensures.front in
-    let back = c.split_at_mut-b.ensures.back in (
-      (
-        (refl, refl),
-        λ x y. set_both_back xs c.split_at_mut-b.result.0.now c.split_at_mut-b.result.1.now i j x y front back c.requires.0 c.requires.1,
-      ),
-      record {
-        writes_back = tt;
-        value = (
-          get_back xs i c.index-a-0.result c.requires.1 (c.index-a-0.is ∙ ap (λ (l : List g.row.T.Denot). get_or l 0 c.index-a-0.result) back),
-          get_front xs j i c.index-b-j.result c.requires.0 c.requires.1 (c.index-b-j.is ∙ ap (λ (l : List g.row.T.Denot). get_or l j c.index-b-j.result) front),
-        );
-      },
+    let parts = c.split_at_mut-b.ensures in
+    let both = get_both c.args.s.now _ _ c.args.j c.args.i _ _ parts.front parts.back c.requires.0 c.requires.1 c.index-b-j.is c.index-a-0.is in (
+      ((refl, refl), λ x y. set_both_back c.args.s.now _ _ c.args.i c.args.j x y parts.front parts.back c.requires.0 c.requires.1),
+      record { writes_back = tt; value = (both.1, both.0) },
     )

@@ -1,5 +1,6 @@
 use Rattle.std.proofs.Common.{refl, sym, ap, ◌∙◌, arith}
 use Rattle.session_model.specs.Walk.{Connection, call_of}
+use Rattle.cqc_session.specs.State.{stage_after_answer}
 use Rattle.cqc_session.proofs.Serves.{begins, poll_goes, poll_ends, asking, answer_ends, answer_goes, goes_at, served_at, serving_at}
 use Rattle.cqc_session.proofs.over_core.serve.Goals as goal
 
@@ -8,11 +9,13 @@ loop-ending-init g c = (
   begins c.args.session.now.connection c.args.session.now.cap c.args.session.now.budget _ _ (g.K.Core.own c.args.core.now) c.args.session.now.work c.requires.fresh c.requires.unread,
   refl,
   refl,
+  c.requires.ready,
   refl,
   refl,
   g.met.K.Core.leads_nowhere c.args.core.now,
   omega arith,
   omega arith,
+  g.met.L.Link.leads_nowhere _,
 )
 
 pub execute-done-requires-clause-ours : goal.execute-done-requires-clause-ours
@@ -20,13 +23,13 @@ execute-done-requires-clause-ours g c =
     let kept = c.loop-ending.invariant in
     let turn = c.in-Execute.ensures.turn in
     turn.1.call_is
-    ∙ ap (λ (p : Connection). call_of p c.in-Execute.call.app c.in-Execute.call.command) (c.poll.ensures.connection ∙ kept.1 ∙ c.requires.ours ∙ sym kept.4)
+    ∙ ap (λ (p : Connection). call_of p c.in-Execute.call.app c.in-Execute.call.command) (c.poll.ensures.connection ∙ kept.1 ∙ c.requires.ours ∙ sym kept.5)
 
 pub execute-done-requires-clause-allowed : goal.execute-done-requires-clause-allowed
 execute-done-requires-clause-allowed g c = c.in-Execute.ensures.turn.1.allowed
 
 pub returns-in-Some-clause-led : goal.returns-in-Some-clause-led
-returns-in-Some-clause-led g c = g.met.K.Core.leads_on _ _ _ c.loop-ending.invariant.5 c.execute-done.ensures.led
+returns-in-Some-clause-led g c = g.met.K.Core.leads_on _ _ _ c.loop-ending.invariant.6 c.execute-done.ensures.led
 
 pub returns-in-End-clause-served : goal.returns-in-End-clause-served
 returns-in-End-clause-served g c =
@@ -41,7 +44,7 @@ returns-in-Some-clause-served g c =
     let turn = c.in-Execute.ensures.turn in
     let serving = poll_goes connection c.args.session.now.cap _ _ _ _ _ _ c.loop-ending.session c.poll.new.self _ _ kept.0 kept.1 turn.0 in
     let ask = asking connection c.args.session.now.cap _ _ _ _ c.poll.new.self _ _ c.in-Execute.call serving (c.poll.ensures.connection ∙ kept.1) turn.1 in
-    served_at connection c.args.session.now.cap _ _ _ _ _ _ _ _ _ _ c.in-Some.ending c.answer.ensures.left kept.3
+    served_at connection c.args.session.now.cap _ _ _ _ _ _ _ _ _ _ c.in-Some.ending c.answer.ensures.left kept.4
     (answer_ends connection c.args.session.now.cap _ _ _ _ _ _ _ _ _ (g.K.Core.seen c.execute-done.new.self) (g.K.Core.capacity c.loop-ending.core) _ c.in-Execute.call c.execute-done.result c.in-Some.ending ask
     c.execute-done.ensures.step (c.in-Some.ensures.answered c.in-Execute.call turn.1))
 
@@ -58,9 +61,11 @@ loop-ending-preserved g c =
           (goes_at connection c.poll.new.self.connection _ _ _ _ _ _ (c.poll.ensures.connection ∙ kept.1) (c.in_default.ensures.answered c.in-Execute.call turn.1))),
       c.answer.ensures.connection ∙ c.poll.ensures.connection ∙ kept.1,
       c.answer.ensures.cap ∙ c.poll.ensures.cap ∙ kept.2,
-      c.execute-done.ensures.capacity ∙ kept.3,
-      c.execute-done.ensures.connection ∙ kept.4,
-      g.met.K.Core.leads_on _ _ _ kept.5 c.execute-done.ensures.led,
+      c.answer.ensures.stage ∙ ap stage_after_answer c.in_default.is,
+      c.execute-done.ensures.capacity ∙ kept.4,
+      c.execute-done.ensures.connection ∙ kept.5,
+      g.met.K.Core.leads_on _ _ _ kept.6 c.execute-done.ensures.led,
       omega (arith, c.in-Execute.ensures.cause.0, c.answer.ensures.read_faults),
       omega (arith, c.in-Execute.ensures.cause.1, c.in_default.ensures.cause),
+      g.met.L.Link.leads_on _ _ _ (g.met.L.Link.leads_on _ _ _ kept.9 c.poll.ensures.led) c.answer.ensures.led,
     )

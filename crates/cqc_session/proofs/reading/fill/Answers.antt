@@ -11,4 +11,5 @@ loop-have-preserved g c =
       omega (arith, c.in-Bytes.ensures.cause),
       c.read_link.ensures.held ∙ kept.2,
       c.read_link.ensures.write_faults ∙ kept.3,
+      g.met.L.Link.leads_on _ _ _ kept.4 c.read_link.ensures.led,
     )

@@ -11,4 +11,5 @@ loop-done-preserved g c =
       omega (arith, c.in-Bytes.ensures.cause),
       c.write_link.ensures.left ∙ kept.3,
       c.write_link.ensures.read_faults ∙ kept.4,
+      g.met.L.Link.leads_on _ _ _ kept.5 c.write_link.ensures.led,
     )

@@ -14,6 +14,7 @@ loop-done-preserved g c =
       omega (arith, c.in-Whole.ensures.cause),
       c.fill.ensures.held ∙ kept.4,
       c.fill.ensures.write_faults ∙ kept.5,
+      g.met.L.Link.leads_on _ _ _ kept.6 c.fill.ensures.led,
     )
 
 pub returns-in-Ended-clause-took : goal.returns-in-Ended-clause-took

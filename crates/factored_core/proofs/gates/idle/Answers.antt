@@ -1,19 +1,16 @@
-use Rattle.std.proofs.Common.{sym, ap, ◌∙◌, subst}
-use Rattle.factored_core.specs.Changes.{IsPreparedStep}
-use Rattle.factored_core.specs.declared.prepared.Prepared.{Prepared}
-use Rattle.core_cells.specs.Cells.{Cells}
-use Rattle.factored_core.proofs.Changed.{some_there}
-use Rattle.factored_core.proofs.IdleSteps.{idle_prepared, idle_leaves_node}
+use Rattle.std.proofs.Common.{ap, refl}
+use Rattle.network_model.specs.Kinds.{takes_qubit}
+use Rattle.factored_core.proofs.RefusalLines.{found_by, own_present, own_home, refused_missing, ready_idle}
 use Rattle.factored_core.proofs.gates.idle.Goals as goal
 
-pub keep-requires : goal.keep-requires
-keep-requires g c = let at = c.seat_of-seat.ensures.seat in some_there _ at.cell (ap (λ (cs : Cells). cs.slot c.seat_of-seat.result.slot) c.seat_of-seat.ensures.same ∙ at.there)
+pub kept-requires-clause-ready : goal.kept-requires-clause-ready
+kept-requires-clause-ready g c = ready_idle _ _ _ _ c.requires.open _ (found_by _ _ _ _ _ _ c.find.ensures c.handles.ensures c.in-Some.is) c.requires.kind
 
-pub prepare_node-requires : goal.prepare_node-requires
-prepare_node-requires g c = idle_leaves_node _ _ _ _ c.requires.ready _ c.requires.number _ c.seat_of-seat.ensures.seat c.requires.idle _ _ c.seat_of-seat.ensures.same c.keep.ensures
+pub kept-requires-clause-home : goal.kept-requires-clause-home
+kept-requires-clause-home g c = own_home _ _ _ _ c.requires.open _ (found_by _ _ _ _ _ _ c.find.ensures c.handles.ensures c.in-Some.is) (unfold takes_qubit in ap takes_qubit c.requires.kind)
 
-pub returns-clause-step : goal.returns-clause-step
-returns-clause-step g c =
-    subst (λ (p : Prepared). IsPreparedStep c.args.shape.now (g.B.Board.cells c.args.board.now) (g.B.Board.cells c.prepare_node.new.board) p)
-    (sym c.in_slot.ensures)
-    (idle_prepared _ _ _ _ c.requires.ready _ c.requires.number _ c.seat_of-seat.ensures.seat c.requires.idle _ _ _ c.seat_of-seat.ensures.same c.keep.ensures c.prepare_node.ensures)
+pub refused-requires-clause-own : goal.refused-requires-clause-own
+refused-requires-clause-own g c = own_present _ _ _ _ c.requires.open
+
+pub returns-in-None-clause-step : goal.returns-in-None-clause-step
+returns-in-None-clause-step g c = c.refused.ensures.step c.args.shape.now (unfold takes_qubit in refused_missing _ _ _ _ c.requires.open _ c.requires.kind refl (found_by _ _ _ _ _ _ c.find.ensures c.handles.ensures c.in-None.is))

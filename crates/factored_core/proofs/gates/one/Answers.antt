@@ -1,16 +1,19 @@
-use Rattle.std.proofs.Common.{None, sym, ap, ◌∙◌, subst}
-use Rattle.network_model.specs.declared.CoreReply.{CoreReply}
-use Rattle.factored_core.specs.Changes.{IsPreparedStep}
-use Rattle.factored_core.specs.Replies.{in_one_slot}
-use Rattle.factored_core.specs.declared.prepared.Prepared.{Prepared}
-use Rattle.factored_core.proofs.GateActs.{gate_prepared, gate_leaves_node}
+use Rattle.std.proofs.Common.{ap, refl}
+use Rattle.network_model.specs.Kinds.{takes_qubit}
+use Rattle.factored_core.proofs.RefusalLines.{found_by, own_present, own_home, eighths_of, refused_missing, ready_gate}
 use Rattle.factored_core.proofs.gates.one.Goals as goal
 
-pub prepare_node-requires : goal.prepare_node-requires
-prepare_node-requires g c = gate_leaves_node _ _ _ _ c.requires.ready _ _ c.seat_of-seat.ensures.seat _ _ _ _ c.seat_of-seat.ensures.same c.gate-gated.ensures
+pub gated-requires-clause-ready : goal.gated-requires-clause-ready
+gated-requires-clause-ready g c = ready_gate _ _ _ _ c.requires.open _ (found_by _ _ _ _ _ _ c.find.ensures c.handles.ensures c.in-Some.is) _ c.requires.kind
 
-pub returns-clause-step : goal.returns-clause-step
-returns-clause-step g c =
-    subst (λ (p : Prepared). IsPreparedStep c.args.shape.now (g.B.Board.cells c.args.board.now) (g.B.Board.cells c.prepare_node.new.board) p)
-    (sym (c.in_slot.ensures ∙ ap (λ (r : CoreReply). in_one_slot c.args.call.now None r c.seat_of-seat.result.slot) c.gate_reply.ensures))
-    (gate_prepared _ _ _ _ c.requires.ready _ _ c.prepare_node.ensures _ c.requires.number _ c.seat_of-seat.ensures.seat _ c.requires.gate _ _ c.seat_of-seat.ensures.same c.gate-gated.ensures)
+pub gated-requires-clause-home : goal.gated-requires-clause-home
+gated-requires-clause-home g c = own_home _ _ _ _ c.requires.open _ (found_by _ _ _ _ _ _ c.find.ensures c.handles.ensures c.in-Some.is) (unfold takes_qubit in ap takes_qubit c.requires.kind)
+
+pub gated-requires-clause-eighths : goal.gated-requires-clause-eighths
+gated-requires-clause-eighths g c = let r = c.requires.open in eighths_of _ _ (r.range).instr c.requires.kind
+
+pub refused-requires-clause-own : goal.refused-requires-clause-own
+refused-requires-clause-own g c = own_present _ _ _ _ c.requires.open
+
+pub returns-in-None-clause-step : goal.returns-in-None-clause-step
+returns-in-None-clause-step g c = c.refused.ensures.step c.args.shape.now (unfold takes_qubit in refused_missing _ _ _ _ c.requires.open _ c.requires.kind refl (found_by _ _ _ _ _ _ c.find.ensures c.handles.ensures c.in-None.is))

@@ -3,4 +3,4 @@ use Rattle.factored_core.proofs.measurements.drawn.Goals as goal
 
 pub returns-clause-measured : goal.returns-clause-measured
 returns-clause-measured g c =
-    measured_by _ _ _ _ _ c.seat_of-seat.ensures.seat _ _ _ _ c.seat_of-seat.ensures.same c.count-alone.ensures.same c.ranges.word.fits c.count-alone.ensures.count c.weights-split.ensures.split c.outcome.ensures
+    measured_by _ _ _ _ _ c.spot_of-spot.ensures.spot _ _ _ _ _ c.spot_of-spot.ensures.same c.count-alone.ensures.same c.ranges.word.fits c.count-alone.ensures.count c.weights-split.ensures.split c.outcome.ensures

@@ -4,5 +4,5 @@ use Rattle.factored_core.proofs.slots.take_out.Goals as goal
 
 pub returns : goal.returns
 returns g c =
-    prepares _ _ _ _ _ (IsTakenOut c.args.seat.place c.args.bit) c.slot.ensures.value
+    prepares _ _ _ _ _ (IsTakenOut c.args.spot.place c.args.bit) c.slot.ensures.value
     (g.met.B.Board.slot_is_put _ _ _ (some_there _ _ c.slot.ensures.value)) _ c.prepare_take_out.ensures.after c.prepare_take_out.ensures

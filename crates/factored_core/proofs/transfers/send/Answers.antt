@@ -1,19 +1,37 @@
-use Rattle.std.proofs.Common.{sym, subst}
-use Rattle.factored_core.specs.Changes.{IsPreparedStep}
-use Rattle.factored_core.specs.declared.prepared.Prepared.{Prepared}
-use Rattle.factored_core.proofs.SendSteps.{other_there, send_leaves_other, send_prepared}
+use Rattle.std.proofs.Common.{IsSome, refl, sym, subst}
+use Rattle.core_cells.specs.Cells.{Cells}
+use Rattle.network_model.specs.Kinds.{takes_qubit}
+use Rattle.factored_core.specs.Ready.{IsReady}
+use Rattle.factored_core.proofs.RefusalLines.{found_by, le_by, lt_by, other_sent, other_present, refused_along, refused_missing, refused_alone, refused_send, ready_send}
 use Rattle.factored_core.proofs.transfers.send.Goals as goal
 
+pub returns-in_default-clause-step : goal.returns-in_default-clause-step
+returns-in_default-clause-step g c =
+    c.refused.ensures.step c.args.shape.now
+    (unfold takes_qubit in refused_missing _ _ _ _ c.requires.open _ c.requires.kind refl (found_by _ _ _ _ _ _ c.find.ensures c.handles.ensures c.in_default.is))
+
+pub returns-in_default-other_at-clause-step : goal.returns-in_default-other_at-clause-step
+returns-in_default-other_at-clause-step g c =
+    c.refused-in_default-other_at.ensures.step c.args.shape.now
+    (refused_alone _ _ _ _ c.requires.open _ c.requires.kind _ (found_by _ _ _ _ _ _ c.find.ensures c.handles.ensures c.in-Some.is) (other_sent _ _ _ _ _ c.requires.kind c.other_at.ensures c.in_default-other_at.is))
+
 pub held_node-to-requires : goal.held_node-to-requires
-held_node-to-requires g c = other_there _ _ _ _ c.requires.ready _ c.requires.other
+held_node-to-requires g c = other_present _ _ _ _ c.requires.open _ (other_sent _ _ _ _ _ c.requires.kind c.other_at.ensures c.in-Some-other_at.is)
 
-pub returns-clause-step : goal.returns-clause-step
-returns-clause-step g c =
-    subst (λ (p : Prepared). IsPreparedStep c.args.shape.now (g.B.Board.cells c.args.board.now) (g.B.Board.cells c.prepare_node-2.new.board) p)
-    (sym c.in_nodes.ensures)
-    (send_prepared _ _ _ _ c.requires.ready _ c.requires.instr _ c.requires.other _ c.held_node-to.ensures.copied _ _ c.held_node-to.ensures.same _ c.prepare_node.ensures
-    c.send.ensures.from _ _ c.prepare_node-2.ensures c.send.ensures.to)
+pub sent-requires-clause-ready : goal.sent-requires-clause-ready
+sent-requires-clause-ready g c =
+    subst (λ (d : Cells). IsReady c.args.shape.now c.args.call.now d c.args.own) (sym c.held_node-to.ensures.same)
+    (ready_send _ _ _ _ c.requires.open _ c.requires.kind _ (found_by _ _ _ _ _ _ c.find.ensures c.handles.ensures c.in-Some.is) _ (other_sent _ _ _ _ _ c.requires.kind c.other_at.ensures c.in-Some-other_at.is)
+    _ c.held_node-to.ensures.copied c.facts.ensures (lt_by _ _ _ _ c.held.ensures.held c.room.ensures.room c.if-held-room.true))
 
-pub prepare_node-requires-2 : goal.prepare_node-requires-2
-prepare_node-requires-2 g c =
-    send_leaves_other _ _ _ _ c.requires.ready _ c.requires.instr _ c.requires.other _ c.held_node-to.ensures.copied _ _ c.held_node-to.ensures.same _ c.prepare_node.ensures
+pub sent-requires-clause-other : goal.sent-requires-clause-other
+sent-requires-clause-other g c = (other_sent _ _ _ _ _ c.requires.kind c.other_at.ensures c.in-Some-other_at.is)
+
+pub refused-requires-else-held-room-clause-other : goal.refused-requires-else-held-room-clause-other
+refused-requires-else-held-room-clause-other g c = subst (λ (d : Cells). IsSome (d.node c.in-Some-other_at.other)) (sym c.held_node-to.ensures.same) (other_present _ _ _ _ c.requires.open _ (other_sent _ _ _ _ _ c.requires.kind c.other_at.ensures c.in-Some-other_at.is))
+
+pub returns-else-held-room-clause-step : goal.returns-else-held-room-clause-step
+returns-else-held-room-clause-step g c =
+    refused_along c.args.shape.now _ _ _ _ _ _ _ _ c.held_node-to.ensures.same c.refused-else-held-room.ensures.step
+    (refused_send _ _ _ _ c.requires.open _ c.requires.kind _ (found_by _ _ _ _ _ _ c.find.ensures c.handles.ensures c.in-Some.is) _ (other_sent _ _ _ _ _ c.requires.kind c.other_at.ensures c.in-Some-other_at.is)
+    _ c.held_node-to.ensures.copied c.facts.ensures (le_by _ _ _ _ c.room.ensures.room c.held.ensures.held c.if-held-room.false))

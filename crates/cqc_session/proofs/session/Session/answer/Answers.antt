@@ -8,7 +8,7 @@ use Rattle.cqc_session.proofs.session.Session.answer.Goals as goal
 pub returns-then-not-say_core-clause-answered : goal.returns-then-not-say_core-clause-answered
 returns-then-not-say_core-clause-answered g c = λ call waits.
     let s = c.self.inside in
-    let busy = busy_with s.busy s.app (s.cursor.left) (s.cursor.notify) call waits.others waits.notify (ap (λ (x : State). x.work) c.self.view_is ∙ waits.work) in
+    let busy = busy_with s.busy s.app (s.program.left) (s.program.notify) call waits.others waits.notify (ap (λ (x : State). x.work) c.self.view_is ∙ waits.work) in
     let text : spell_core s.app c.in-Ok.reply ≡ answer_text call.app c.args.done =
     ap (λ n. spell_core n c.in-Ok.reply) busy.app_is ∙ ap (answer_text call.app) (sym c.in-Ok.is) in
     subst (λ (x : List ℕ). PartSaid x (g.L.Sink.held c.args.link.now) (g.L.Sink.held c.say_core.new.link)) text
@@ -17,7 +17,7 @@ returns-then-not-say_core-clause-answered g c = λ call waits.
 pub returns-else-say-clause-answered : goal.returns-else-say-clause-answered
 returns-else-say-clause-answered g c = λ call waits.
     let s = c.self.inside in
-    let busy = busy_with s.busy s.app (s.cursor.left) (s.cursor.notify) call waits.others waits.notify (ap (λ (x : State). x.work) c.self.view_is ∙ waits.work) in
+    let busy = busy_with s.busy s.app (s.program.left) (s.program.notify) call waits.others waits.notify (ap (λ (x : State). x.work) c.self.view_is ∙ waits.work) in
     let text : answer_text s.app (Err c.in-Err.full) ≡ answer_text call.app c.args.done =
     ap (λ n. answer_text n (Err c.in-Err.full)) busy.app_is ∙ ap (answer_text call.app) (sym c.in-Err.is) in
     subst (λ (x : List ℕ). PartSaid x (g.L.Sink.held c.args.link.now) (g.L.Sink.held c.say.new.link)) text

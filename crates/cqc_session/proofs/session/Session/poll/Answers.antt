@@ -9,7 +9,7 @@ use Rattle.cqc_session.proofs.session.Session.poll.Goals as goal
 pub loop-command-init : goal.loop-command-init
 loop-command-init g c =
     let s = c.self.inside in
-    let now = work_of s.busy s.app (s.cursor.left) (s.cursor.notify) in
+    let now = work_of s.busy s.app (s.program.left) (s.program.notify) in
     let left = g.L.Source.left c.args.link.now in
     let held = g.L.Sink.held c.args.link.now in (
       subst (λ (x : State). Spoke x.connection x.work left left held held x.budget s.budget now) c.self.view_is
@@ -19,6 +19,7 @@ loop-command-init g c =
       omega (arith, ap steps_left c.self.view_is),
       omega arith,
       omega arith,
+      g.met.L.Link.leads_nowhere _,
     )
 
 pub returns-in-Ask-clause-turn : goal.returns-in-Ask-clause-turn
@@ -27,10 +28,11 @@ returns-in-Ask-clause-turn g c =
     let s = c.loop-command.self-inside in
     let connection = c.args.self.now.connection in
     let asked = c.in-Ask.ensures.next connection in
-    let list = s.cursor.left in
-    let notify = s.cursor.notify in (
+    let list = s.program.left in
+    let notify = s.program.notify in (
       spoke_on connection _ _ _ _ _ _ _ _ _ _ _ _ kept.0 (stays connection _ _ _ _ _ s.budget asked.3 asked.4),
       record {
+        stage = refl;
         others = asked.1;
         notify = notify;
         work = ap (λ (b : Bool). work_of b s.app list notify) asked.0 ∙ ap (λ (l : List Command). working s.app l notify) asked.2;
@@ -62,6 +64,7 @@ loop-command-preserved-in-Answered g c =
       omega (arith, taken.1, kept.3),
       omega (arith, c.in-Answered.ensures.cause.0),
       omega (arith, c.in-Answered.ensures.cause.1, c.in-Ready.ensures.cause),
+      g.met.L.Link.leads_on _ _ _ (g.met.L.Link.leads_on _ _ _ kept.6 c.next_command.ensures.led) c.take_message.ensures.led,
     )
 
 pub loop-command-preserved : goal.loop-command-preserved
@@ -76,6 +79,7 @@ loop-command-preserved g c =
       omega (arith, taken.1, kept.3, taken.2),
       omega (arith, c.in-Opened.ensures.cause.0),
       omega (arith, c.in-Opened.ensures.cause.1, c.in-Ready.ensures.cause),
+      g.met.L.Link.leads_on _ _ _ (g.met.L.Link.leads_on _ _ _ kept.6 c.next_command.ensures.led) c.take_message.ensures.led,
     )
 
 pub returns-in-Stopped-clause-turn : goal.returns-in-Stopped-clause-turn

@@ -12,6 +12,7 @@ invariant_of-self g c =
           (stands_grown s.core.shape s.journal.items c.step-entry.result _ _ kept.0 c.step-entry.ensures.steps),
       grown_fits s.journal.items _ c.step-entry.result s.capacity c.in-Ok.ensures.items room,
       omega (arith, kept.2, c.in-Ok.ensures.capacity),
+      kept.3,
     )
 
 pub returns-clause-step : goal.returns-clause-step

@@ -11,7 +11,7 @@ prepare-prepared-requires-clause-has g c =
     (subst (λ (v : CoreCells). c.args.call.now.node < length v.shape.places) (sym c.self.view_is) c.requires.allowed.node)
 
 pub finish-requires : goal.finish-requires
-finish-requires g c = left_after c.self.inside.shape _ _ c.prepare-prepared.result c.prepare-prepared.ensures.step c.prepare-prepared.ensures.there
+finish-requires g c = left_after c.self.inside.shape _ _ c.prepare-prepared.result c.prepare-prepared.ensures.step
 
 pub invariant_of-self : goal.invariant_of-self
 invariant_of-self g c = core_after c.self.inside.shape _ _ _ c.prepare-prepared.result c.self.invariant c.prepare-prepared.ensures.step c.finish.ensures

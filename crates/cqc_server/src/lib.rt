@@ -1,0 +1,12 @@
+//! Many connections over one core, in every order of turns.
+#![tactic(auto)]
+
+mod actor;
+mod turns;
+
+pub use actor::{Actor, Shown};
+pub use schedule::{Planned, Schedule, ScheduleFault, ScheduleRead, Why, read_schedule};
+pub use turns::replay;
+
+#[cfg(test)]
+mod tests;

@@ -1,0 +1,158 @@
+// What a connection is answered over a core with a journal, and how it ends.
+ghost use Rattle.std.specs.Prelude.{◌≤◌};
+
+use super::*;
+use factored_core::Solo;
+use hex::{decode, encode};
+use network_model::Place;
+use qron_link::{ListDice, MemLink};
+use std::alloc::Global;
+use std::test::Fail;
+use virtual_node::Shape;
+
+// The most entries of the tests' journal.
+const ENTRIES: u32 = 16;
+
+// What was written, in hexadecimal, how the connection ended, and how many entries there are.
+#[derive(Drop)]
+struct Answered {
+    output: String,
+    ending: Ending,
+    entries: usize,
+}
+
+// Serves one connection at the one node of a network.
+fn serve_bytes(
+    alloc: Global,
+    input: &str,
+    capacity: u32,
+    bad_writes: Vec<u32>,
+) -> Result<Answered, Fail>
+    requires some { 1 ≤ capacity }
+    requires most { capacity ≤ 16 }
+{
+    let place = Place {
+        address: 2_130_706_433,
+        port: 8821,
+    };
+    let mut solo = Solo::open(alloc, Shape::new(&[place], 16, 12), capacity)?;
+    let mut session = Session::new(alloc, 0, 0, 4096)?;
+    let mut link = MemLink::new(
+        alloc,
+        decode(alloc, input)?,
+        7,
+        256,
+        Vec::new(alloc),
+        bad_writes,
+    )?;
+    let mut dice = ListDice::new(Vec::new(alloc));
+    session.begin(0);
+    let ending = serve_solo(&mut solo, &mut session, &mut link, &mut dice);
+    Ok(Answered {
+        output: encode(alloc, link.written())?,
+        ending,
+        entries: solo.entries().len(),
+    })
+}
+
+#[test]
+fn allocate_and_factory_are_unrolled(rt: HostRuntime) -> Result<(), Fail> {
+    let alloc = rt.alloc();
+    let cases = [
+        // ALLOCATE of 3 and of 0, with NOTIFY
+        (
+            "020100000000000400031601",
+            "020a0000000000020000020a0000000000020001020a00000000000200020204000000000000",
+        ),
+        ("020100000000000400001601", "0204000000000000"),
+        // FACTORY of a NEW, 2 times and 0 times, with NOTIFY in its options
+        (
+            "0202000000000006020100000100",
+            "020a0000000000020000020a00000000000200010204000000000000",
+        ),
+        ("0202000000000006000100000100", "0204000000000000"),
+        // a FACTORY that is too short
+        ("020200000000000101", "0214000000000000"),
+        // ALLOCATE of 2 in a FACTORY of 2
+        (
+            "0202000000000006020000021600",
+            "020a0000000000020000020a0000000000020001020a0000000000020002020a0000000000020003",
+        ),
+        // the second of three rounds is refused: the rest is passed over, and there is no DONE
+        (
+            "0201000000000004000001000202000000000006030100001700",
+            "020a00000000000200000219000000000000",
+        ),
+    ];
+    for (input, output) in cases {
+        let answer = serve_bytes(alloc, input, ENTRIES, Vec::new(alloc))?;
+        assert_eq!(rt; answer.output.as_str(), output, "{input}");
+        assert_eq!(rt; answer.ending, Ending::Clean, "{input}");
+    }
+    Ok(())
+}
+
+#[test]
+fn other_versions_types_and_options_are_unsupported(rt: HostRuntime) -> Result<(), Fail> {
+    let alloc = rt.alloc();
+    let cases = [
+        // version 1, GET_TIME, EXPIRE, type 11, and NEW with ACTION
+        "0100000000000000",
+        "0208000000000000",
+        "0203000000000000",
+        "020b000000000000",
+        "020100000000000400000102",
+    ];
+    for input in cases {
+        let answer = serve_bytes(alloc, input, ENTRIES, Vec::new(alloc))?;
+        assert_eq!(rt; answer.output.as_str(), "0216000000000000", "{input}");
+        assert_eq!(rt; answer.entries, 0, "{input}");
+    }
+    Ok(())
+}
+
+#[test]
+fn a_cut_tells_how_much_was_there(rt: HostRuntime) -> Result<(), Fail> {
+    let alloc = rt.alloc();
+    let head = serve_bytes(alloc, "020100", ENTRIES, Vec::new(alloc))?;
+    assert_eq!(rt; head.ending, Ending::Cut { have: 3, need: 8 });
+    let body = serve_bytes(
+        alloc,
+        "020100000000000c0000010000",
+        ENTRIES,
+        Vec::new(alloc),
+    )?;
+    assert_eq!(rt; body.ending, Ending::Cut { have: 5, need: 12 });
+    assert_eq!(rt; body.entries, 0);
+    Ok(())
+}
+
+#[test]
+fn a_full_journal_is_answered_general(rt: HostRuntime) -> Result<(), Fail> {
+    let alloc = rt.alloc();
+    let full = serve_bytes(
+        alloc,
+        "02010000000000080000010000001101",
+        1,
+        Vec::new(alloc),
+    )?;
+    assert_eq!(rt;
+        full.output.as_str(),
+        "020a00000000000200000214000000000000"
+    );
+    assert_eq!(rt; full.ending, Ending::Full { entries: 1 });
+    assert_eq!(rt; full.entries, 1);
+    Ok(())
+}
+
+#[test]
+fn a_write_that_fails_leaves_its_entry(rt: HostRuntime) -> Result<(), Fail> {
+    let alloc = rt.alloc();
+    let mut bad_writes = Vec::new(alloc);
+    bad_writes.push(0)?;
+    let broken = serve_bytes(alloc, "020100000000000400000101", ENTRIES, bad_writes)?;
+    assert_eq!(rt; broken.output.as_str(), "");
+    assert_eq!(rt; broken.ending, Ending::WriteFault);
+    assert_eq!(rt; broken.entries, 1);
+    Ok(())
+}

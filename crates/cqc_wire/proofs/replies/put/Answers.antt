@@ -1,7 +1,0 @@
-use Rattle.std.proofs.Common.{arith}
-use Rattle.std.proofs.lemmas.Slice.{drop-put_mid}
-use Rattle.cqc_wire.proofs.replies.put.Goals as goal
-
-pub returns-clause-behind : goal.returns-clause-behind
-returns-clause-behind c =
-    λ n h. drop-put_mid c.args.at _ c.args.out.now c.copy_from_slice.new.self n (omega arith) (omega arith) (omega arith)
