@@ -40,7 +40,7 @@ expect 'a header cut short' 5 '' '' 020100 pipe
 expect 'a body cut short' 5 $hello '' ${hello}020100000000000c0000010000 pipe
 expect 'no word' 2 '' 'qron: words' $hello
 expect 'an unknown word' 2 '' 'qron: words' $hello dance
-expect 'a word too many' 2 '' 'qron: words' $hello pipe x
+expect 'a word too many' 2 '' 'qron: words' $hello pipe x y
 expect 'no help' 2 '' 'qron: words' $hello --help
 
 # so many times the same bytes

@@ -2,7 +2,7 @@
 use Rattle.std.proofs.Common.{◌≡◌, ◌≢◌, ℕ, ◌==◌, Bool, true, false, cond, Option, Some, None, IsSome, refl, sym, ap, subst, ◌∙◌}
 use mathlib.Core.Path.{fun_ext}
 use Rattle.state_model.proofs.Booleans.{eq_true, eq_false, eq_of}
-use Rattle.core_cells.specs.declared.cells.NodePair.{NodePair}
+use Rattle.core_cells.specs.Nodes.{NodeValues}
 use Rattle.core_cells.specs.declared.cells.PoolPair.{PoolPair}
 use Rattle.core_cells.specs.declared.cells.SlotCell.{SlotCell}
 use Rattle.core_cells.specs.Cells.{Cells, put_node, put_pool, put_slot}
@@ -41,7 +41,7 @@ unfolding value_or
 some_value v w is = ap (value_or v) is
 
 -- ---- a cell that was put is there, and the others are as before
-pub node_put : (cs : Cells) (k : ℕ) (w : NodePair) → (put_node cs k w).node k ≡ Some w
+pub node_put : (cs : Cells) (k : ℕ) (w : NodeValues) → (put_node cs k w).node k ≡ Some w
 unfolding put_node
 node_put cs k w = at_put cs.node k w
 
@@ -54,7 +54,7 @@ unfolding put_slot
 slot_beside cs k m w other = beside_put cs.slot k m w other
 
 -- ---- putting what is there changes nothing
-pub put_node_same : (cs : Cells) (k : ℕ) (w : NodePair) → cs.node k ≡ Some w → put_node cs k w ≡ cs
+pub put_node_same : (cs : Cells) (k : ℕ) (w : NodeValues) → cs.node k ≡ Some w → put_node cs k w ≡ cs
 unfolding put_node
 put_node_same cs k w is = λ i. record cs { node = λ m. still_there cs.node k m w is i }
 

@@ -7,7 +7,7 @@ use Rattle.std.proofs.Math.Seq.{drop-cons}
 use Rattle.std.proofs.Math.Numerals.{suc-eq-add-one}
 use Rattle.std.proofs.lemmas.List.{drop_all}
 use Rattle.state_model.proofs.Booleans.{clash, eq_of, eq_flip, or_false, or_true}
-use Rattle.core_cells.specs.declared.cells.NodePair.{NodePair}
+use Rattle.core_cells.specs.Nodes.{NodeValues}
 use Rattle.core_cells.specs.declared.cells.PoolPair.{PoolPair}
 use Rattle.core_cells.specs.declared.cells.SlotCell.{SlotCell}
 use Rattle.core_cells.specs.declared.names.CellName.{CellName}
@@ -27,7 +27,7 @@ at_put f g k m w is = ap (λ b. cond b (Some (f w)) (g m)) (eq_flip m k) ∙ by 
     by false e = ap (λ t. cond t (Some (f w)) (g m)) e ∙ sym (ap (λ t. cond (t || false) (option_map f (g m)) (g m)) e)
 
 module _ (f : CellMap) (cs new : Cells) (name : CellName) where
-  pub node_on : (k : ℕ) (w v : NodePair) → name ≡ Node k → cs.node k ≡ Some w → v ≡ f.node w → new ≡ put_node cs k v → new ≡ on_named f (Some name ∷ []) cs
+  pub node_on : (k : ℕ) (w v : NodeValues) → name ≡ Node k → cs.node k ≡ Some w → v ≡ f.node w → new ≡ put_node cs k v → new ≡ on_named f (Some name ∷ []) cs
   unfolding put_node on_named
   node_on k w v is at made put =
       put ∙ ap (put_node cs k) made ∙ cells_by (put_node cs k (f.node w)) (on_named f (Some (Node k) ∷ []) cs) (λ m. at_put f.node cs.node k m w at) refl (λ t. refl)
@@ -53,7 +53,7 @@ twice f again true false o = refl
 twice f again true true None = refl
 twice f again true true (Some w) = ap Some (again w)
 
-node_again : (e : Ending) (w : NodePair) → (done_by e).node ((done_by e).node w) ≡ (done_by e).node w
+node_again : (e : Ending) (w : NodeValues) → (done_by e).node ((done_by e).node w) ≡ (done_by e).node w
 node_again Settle w = refl
 node_again Forget w = refl
 

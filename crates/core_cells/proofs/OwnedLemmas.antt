@@ -11,7 +11,7 @@ use Rattle.network_model.specs.Factored.{FitsNode, FitsPool, FitsSlot}
 use Rattle.virtual_node.specs.Node.{empty_node, held_map, arrived_map}
 use Rattle.core_cells.specs.Cells.{empty_slot, register_of}
 use Rattle.core_cells.specs.Owned.{cells_of, IsOpened}
-use Rattle.core_cells.specs.declared.cells.NodePair.{NodePair}
+use Rattle.core_cells.specs.Nodes.{NodeValues}
 use Rattle.core_cells.specs.declared.cells.PoolPair.{PoolPair}
 use Rattle.core_cells.specs.declared.cells.SlotCell.{SlotCell}
 use Rattle.core_cells.proofs.CellLemmas.{some_value}
@@ -48,7 +48,7 @@ pub new_slot_fits : (shape : Shape) (limit t : ℕ) → limit ≡ shape.limit �
 unfolding opening is_listed
 new_slot_fits shape limit t is = record { limit = is; homes = λ q. refl; group = λ p q h. cc; part = λ p h. cc }
 
-abbrev new_node : NodePair
+abbrev new_node : NodeValues
 new_node = record { now = empty_node; next = None }
 
 pub opened : (shape : Shape) (pool : PoolPair) (n k limit : ℕ) → n ≡ length shape.places → k ≡ length shape.places * shape.room → limit ≡ shape.limit → pool.next ≡ None
@@ -61,12 +61,12 @@ opened shape pool n k limit is_n is_k is_limit none fits = record {
     slots = λ t less. is_there k t (empty_slot limit) (subst (λ (b : ℕ). t < b) (sym is_k) less);
   };
   unprepared = record {
-    node = λ m w is. sym (ap (λ (v : NodePair). v.next) (each_is n m new_node w is));
+    node = λ m w is. sym (ap (λ (v : NodeValues). v.next) (each_is n m new_node w is));
     pool = λ w is. sym (ap (λ (v : PoolPair). v.next) (some_value w pool is)) ∙ none;
     slot = λ t w is. sym (ap (λ (v : SlotCell). v.register.next) (each_is k t (empty_slot limit) w is));
   };
   fits = record {
-    nodes = λ m w is. subst (λ (v : NodePair). FitsNode opening m (held_map v.now) (arrived_map v.now)) (each_is n m new_node w is) (new_node_fits m);
+    nodes = λ m w is. subst (λ (v : NodeValues). FitsNode opening m (held_map v.now) (arrived_map v.now)) (each_is n m new_node w is) (new_node_fits m);
     pool = λ w is. subst (λ (v : PoolPair). FitsPool shape opening (λ q. 0) v.now.numbers v.now.slots v.now.pairs) (some_value w pool is) fits;
     slots = λ t w is. subst (λ (v : SlotCell). FitsSlot shape opening (λ q. 0) t (register_of v.register)) (each_is k t (empty_slot limit) w is) (new_slot_fits shape limit t is_limit);
   };

@@ -7,13 +7,13 @@ use Rattle.network_model.specs.Network.{Network, Shape}
 use Rattle.network_model.specs.Factored.{FitsNode, FitsPool, FitsSlot}
 use Rattle.amplitude_register.specs.States.{RegisterState, Next, empty, draft, prepared, no_qubit}
 use Rattle.virtual_node.specs.Node.{held_map, arrived_map}
-use Rattle.core_cells.specs.declared.cells.NodePair.{NodePair}
+use Rattle.core_cells.specs.Nodes.{NodeValues}
 use Rattle.core_cells.specs.declared.cells.PoolPair.{PoolPair}
 use Rattle.core_cells.specs.declared.cells.SlotCell.{SlotCell}
 
 -- the cells that a board has
 pub record Cells : Type 0 where
-  pub node : ℕ → Option NodePair
+  pub node : ℕ → Option NodeValues
   pub pool : Option PoolPair
   pub slot : ℕ → Option SlotCell
 
@@ -22,7 +22,7 @@ abbrev pub empty_slot : ℕ → SlotCell
 empty_slot limit = record { register = record { limit = limit; value = no_qubit; next = empty } }
 
 -- the cells with another node, pool or slot
-unfoldable pub put_node : Cells → ℕ → NodePair → Cells
+unfoldable pub put_node : Cells → ℕ → NodeValues → Cells
 put_node cs k w = record cs { node = λ m. cond (m == k) (Some w) (cs.node m) }
 
 unfoldable pub put_pool : Cells → PoolPair → Cells
@@ -41,7 +41,7 @@ settled_value a (prepared b) = b
 abbrev pub settled_register : RegisterState → RegisterState
 settled_register r = record r { value = settled_value r.value r.next; next = empty }
 
-abbrev pub settled_node : NodePair → NodePair
+abbrev pub settled_node : NodeValues → NodeValues
 settled_node w = record { now = unwrap_or w.next w.now; next = None }
 
 abbrev pub settled_pool : PoolPair → PoolPair
@@ -54,7 +54,7 @@ settled_slot w = record { register = settled_register w.register }
 abbrev pub forgotten_register : RegisterState → RegisterState
 forgotten_register r = record r { next = empty }
 
-abbrev pub forgotten_node : NodePair → NodePair
+abbrev pub forgotten_node : NodeValues → NodeValues
 forgotten_node w = record w { next = None }
 
 abbrev pub forgotten_pool : PoolPair → PoolPair
@@ -72,7 +72,7 @@ forgotten cs = record { node = λ m. option_map forgotten_node (cs.node m); pool
 
 -- no cell has a next value
 pub record IsUnprepared (cs : Cells) : Type 0 where
-  pub node : (m : ℕ) (w : NodePair) → cs.node m ≡ Some w → w.next ≡ None
+  pub node : (m : ℕ) (w : NodeValues) → cs.node m ≡ Some w → w.next ≡ None
   pub pool : (w : PoolPair) → cs.pool ≡ Some w → w.next ≡ None
   pub slot : (t : ℕ) (w : SlotCell) → cs.slot t ≡ Some w → w.register.next ≡ empty
 
@@ -86,7 +86,7 @@ register_of r = record { limit = r.limit; qubits = r.value.qubits; list = r.valu
 
 -- the cells fit a state with homes
 pub record CellsFit (shape : Shape) (s : Network) (home : ℕ → ℕ) (cs : Cells) : Type 0 where
-  pub nodes : (m : ℕ) (w : NodePair) → cs.node m ≡ Some w → FitsNode s m (held_map w.now) (arrived_map w.now)
+  pub nodes : (m : ℕ) (w : NodeValues) → cs.node m ≡ Some w → FitsNode s m (held_map w.now) (arrived_map w.now)
   pub pool : (w : PoolPair) → cs.pool ≡ Some w → FitsPool shape s home w.now.numbers w.now.slots w.now.pairs
   pub slots : (t : ℕ) (w : SlotCell) → cs.slot t ≡ Some w → FitsSlot shape s home t (register_of w.register)
 

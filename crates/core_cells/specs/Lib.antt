@@ -5,3 +5,4 @@ pub mod Names
 pub mod Owned
 pub mod Lending
 pub mod OwnedLaws
+pub mod Nodes

@@ -5,7 +5,7 @@ use Rattle.core_cells.specs.declared.names.CellName.{CellName}
 use Rattle.core_cells.specs.declared.names.CellName.TheVariants.{Node, Pool, Slot}
 use Rattle.core_cells.specs.declared.names.Ending.{Ending}
 use Rattle.core_cells.specs.declared.names.Ending.TheVariants.{Settle, Forget}
-use Rattle.core_cells.specs.declared.cells.NodePair.{NodePair}
+use Rattle.core_cells.specs.Nodes.{NodeValues}
 use Rattle.core_cells.specs.declared.cells.PoolPair.{PoolPair}
 use Rattle.core_cells.specs.declared.cells.SlotCell.{SlotCell}
 use Rattle.core_cells.specs.Cells.{Cells, settled_slot, forgotten_slot}
@@ -41,7 +41,7 @@ pub record AreThere (cs : Cells) (names : List (Option CellName)) : Type 0 where
 
 -- what is done to a node's cell, to the pool's and to a slot's
 pub record CellMap : Type 0 where
-  pub node : NodePair → NodePair
+  pub node : NodeValues → NodeValues
   pub pool : PoolPair → PoolPair
   pub slot : SlotCell → SlotCell
 

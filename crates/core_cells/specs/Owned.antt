@@ -2,13 +2,13 @@
 use Rattle.std.specs.Prelude.{ℕ, ◌≡◌, ◌*◌, ◌≤◌, List, length, Some, None, slice_get, slice_set}
 use Rattle.network_model.specs.Network.{Shape, opening}
 use Rattle.core_cells.specs.Cells.{Cells, HasAllCells, IsUnprepared, CellsFit}
-use Rattle.core_cells.specs.declared.cells.NodePair.{NodePair}
+use Rattle.core_cells.specs.Nodes.{NodeValues}
 use Rattle.core_cells.specs.declared.cells.PoolPair.{PoolPair}
 use Rattle.core_cells.specs.declared.cells.SlotCell.{SlotCell}
 
 -- the nodes, the pool and the slots, each by its number
 pub record Owned : Type 0 where
-  pub nodes : List NodePair
+  pub nodes : List NodeValues
   pub pool : PoolPair
   pub slots : List SlotCell
 
@@ -17,7 +17,7 @@ abbrev pub cells_of : Owned → Cells
 cells_of o = record { node = slice_get o.nodes; pool = Some o.pool; slot = slice_get o.slots }
 
 -- the same with another cell at a place
-abbrev pub owned_with_node : Owned → ℕ → NodePair → Owned
+abbrev pub owned_with_node : Owned → ℕ → NodeValues → Owned
 owned_with_node o k w = record o { nodes = slice_set o.nodes k w }
 
 abbrev pub owned_with_pool : Owned → PoolPair → Owned

@@ -4,7 +4,7 @@ use mathlib.Core.Bool.{false≢true}
 use Rattle.state_model.proofs.Booleans.{eq_of, ne_of}
 use Rattle.core_cells.specs.Cells.{put_node, put_pool, put_slot}
 use Rattle.core_cells.specs.Owned.{Owned, cells_of, owned_with_node, owned_with_pool, owned_with_slot}
-use Rattle.core_cells.specs.declared.cells.NodePair.{NodePair}
+use Rattle.core_cells.specs.Nodes.{NodeValues}
 use Rattle.core_cells.specs.declared.cells.PoolPair.{PoolPair}
 use Rattle.core_cells.specs.declared.cells.SlotCell.{SlotCell}
 
@@ -27,7 +27,7 @@ set_is_put xs k m w has = by (m == k) refl
     by true e = ap (slice_get (slice_set xs k w)) (eq_of m k e) ∙ get_set xs k w has ∙ sym (ap (λ b. cond b (Some w) (slice_get xs m)) e)
     by false e = get_beside xs k m w (ne_of m k e) ∙ sym (ap (λ b. cond b (Some w) (slice_get xs m)) e)
 
-pub node_is_put_in : (o : Owned) (k : ℕ) (w : NodePair) → IsSome ((cells_of o).node k) → cells_of (owned_with_node o k w) ≡ put_node (cells_of o) k w
+pub node_is_put_in : (o : Owned) (k : ℕ) (w : NodeValues) → IsSome ((cells_of o).node k) → cells_of (owned_with_node o k w) ≡ put_node (cells_of o) k w
 unfolding put_node
 node_is_put_in o k w has = λ i. record (cells_of o) { node = λ m. set_is_put o.nodes k m w has i }
 

@@ -8,7 +8,7 @@ use crate::cells::{NodePair, PoolPair, SlotCell};
 
 /// A board of cells. Afterwards a lent cell is as the borrower left it, and all others stay.
 pub trait Board {
-    ghost use Rattle.core_cells.specs.declared.cells.NodePair.{NodePair};
+    ghost use Rattle.core_cells.specs.Nodes.{NodeValues};
     ghost use Rattle.core_cells.specs.declared.cells.PoolPair.{PoolPair};
     ghost use Rattle.core_cells.specs.declared.cells.SlotCell.{SlotCell};
     ghost use Rattle.core_cells.specs.contracts.cells.NodePair.{the_row as node_row};
@@ -19,7 +19,7 @@ pub trait Board {
     ghost cells: { Self → Cells };
 
     // the board with another value of a cell
-    ghost with_node: { Self → ℕ → NodePair → Self };
+    ghost with_node: { Self → ℕ → NodeValues → Self };
 
     ghost with_pool: { Self → PoolPair → Self };
 
@@ -56,7 +56,7 @@ pub trait Board {
         ensures home { (w : SlotCell) × ((cells self.old).slot result ≡ Some w) × (is_listed w.register.value.qubits number ≡ true) };
 
     // a cell is what was put, and all others stay
-    ghost node_is_put: { (b : Self) (k : ℕ) (w : NodePair) → IsSome ((cells b).node k) → cells (with_node b k w) ≡ put_node (cells b) k w };
+    ghost node_is_put: { (b : Self) (k : ℕ) (w : NodeValues) → IsSome ((cells b).node k) → cells (with_node b k w) ≡ put_node (cells b) k w };
 
     ghost pool_is_put: { (b : Self) (w : PoolPair) → IsSome (cells b).pool → cells (with_pool b w) ≡ put_pool (cells b) w };
 

@@ -1,24 +1,35 @@
 // The cells of the core, each with room for its next value.
-ghost use Rattle.std.specs.Prelude.{◌≡◌, ◌≤◌, ℕ, None, IfOk};
+ghost use Rattle.std.specs.Prelude.{◌≡◌, ◌≤◌, ℕ, None, Some, IfOk};
 ghost use Rattle.state_model.specs.Row.{is_listed};
 ghost use Rattle.network_model.specs.Network.{Shape, opening};
 ghost use Rattle.network_model.specs.Factored.{FitsSlot};
 ghost use Rattle.core_cells.specs.Cells.{empty_slot, register_of};
-ghost use Rattle.core_cells.specs.Names.{value_by, done_by};
+ghost use Rattle.core_cells.specs.Names.{done_by};
+ghost use Rattle.virtual_node.specs.Node.{empty_node};
 
 use crate::names::Ending;
 use crate::pool::PoolCell;
 use amplitude_register::Register;
 use std::alloc::{AllocError, Global};
+use std::marker::Model;
 use virtual_node::NodeCell;
 
-/// The cell of a node.
+/// The cell of a node: what is held and waits there, and where a prepared step touches it, what it will be then.
 #[derive(Drop)]
 pub struct NodePair {
-    /// What is held and waits at the node.
-    pub now: NodeCell,
-    /// What it will be once the prepared step is finished, where that touches the node.
-    pub next: Option<NodeCell>,
+    value: NodeCell,
+    // the next value, where one is prepared; its place stays, so that only what is there is copied
+    next_value: NodeCell,
+    is_prepared: bool,
+}
+
+impl Model for NodePair {
+    ghost use Rattle.std.specs.Prelude.{cond, Some, None};
+    ghost use Rattle.core_cells.specs.Nodes.{NodeValues};
+
+    ghost Value = { NodeValues };
+
+    ghost view = { λ p. record { now = p.value; next = cond p.is_prepared (Some p.next_value) None } };
 }
 
 /// The cell of the pool.
@@ -37,23 +48,41 @@ pub struct SlotCell {
     pub register: Register,
 }
 
-/// Takes a prepared value, if there is one. Where it is to be settled, it is put in place.
-fn end_value<T: Drop>(now: &mut T, next: &mut Option<T>, ending: Ending)
-    ensures now { now.new ≡ value_by ending now.old next.old }
-    ensures next { next.new ≡ None }
-{
-    match (next.take(), ending) {
-        (Some(value), Ending::Settle) => *now = value,
-        _ => {}
-    }
-}
-
 impl NodePair {
+    /// A node where nothing is held and nothing waits.
+    pub(crate) fn new() -> NodePair
+        ensures { result ≡ record { now = empty_node; next = None } }
+    {
+        NodePair {
+            value: NodeCell::new(),
+            next_value: NodeCell::new(),
+            is_prepared: false,
+        }
+    }
+
+    /// What is held and waits at the node.
+    pub fn value(&self) -> &NodeCell
+        ensures { result.now ≡ self.now.now }
+    {
+        &self.value
+    }
+
+    /// Prepares a next value, the same as a cell.
+    pub fn prepare(&mut self, cell: &NodeCell)
+        ensures { self.new ≡ record self.old { next = Some cell.now } }
+    {
+        self.next_value.copy_from(cell);
+        self.is_prepared = true;
+    }
+
     /// The prepared value is gone. Where it is to be settled, it was put in place.
     pub(crate) fn end(&mut self, ending: Ending)
         ensures { self.new ≡ (done_by ending).node self.old }
     {
-        end_value(&mut self.now, &mut self.next, ending);
+        if self.is_prepared && ending == Ending::Settle {
+            self.value.copy_from(&self.next_value);
+        }
+        self.is_prepared = false;
     }
 }
 
@@ -62,7 +91,10 @@ impl PoolPair {
     pub(crate) fn end(&mut self, ending: Ending)
         ensures { self.new ≡ (done_by ending).pool self.old }
     {
-        end_value(&mut self.now, &mut self.next, ending);
+        match (self.next.take(), ending) {
+            (Some(value), Ending::Settle) => self.now = value,
+            _ => {}
+        }
     }
 }
 

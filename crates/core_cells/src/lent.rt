@@ -2,9 +2,10 @@
 ghost use Rattle.std.specs.Prelude.{◌≡◌, ℕ, [], ◌∷◌, Some, IsSome};
 ghost use Rattle.core_cells.specs.Cells.{put_node, put_pool};
 ghost use Rattle.core_cells.specs.Names.{AreThere, done_by, on_named};
+ghost use Rattle.core_cells.specs.Nodes.{NodeValues};
 
 use crate::board::Board;
-use crate::cells::{NodePair, PoolPair};
+use crate::cells::PoolPair;
 use crate::names::{CellName, Ending};
 use crate::pool::PoolCell;
 use virtual_node::NodeCell;
@@ -13,17 +14,17 @@ use virtual_node::NodeCell;
 pub fn held_node<B: Board>(board: &mut B, node: u8) -> NodeCell
     requires { IsSome ((B.cells board.old).node node) }
     ensures same { B.cells board.new ≡ B.cells board.old }
-    ensures copied { (w : NodePair) → (B.cells board.old).node node ≡ Some w → result ≡ w.now }
+    ensures copied { (w : NodeValues) → (B.cells board.old).node node ≡ Some w → result ≡ w.now }
 {
-    board.node(node).now.copy()
+    board.node(node).value().copy()
 }
 
-/// Prepares a node's next value.
-pub fn prepare_node<B: Board>(board: &mut B, node: u8, cell: NodeCell)
+/// Prepares a node's next value, the same as a cell.
+pub fn prepare_node<B: Board>(board: &mut B, node: u8, cell: &NodeCell)
     requires { IsSome ((B.cells board.old).node node) }
-    ensures { (w : NodePair) → (B.cells board.old).node node ≡ Some w → B.cells board.new ≡ put_node (B.cells board.old) node (record w { next = Some cell }) }
+    ensures { (w : NodeValues) → (B.cells board.old).node node ≡ Some w → B.cells board.new ≡ put_node (B.cells board.old) node (record w { next = Some cell.now }) }
 {
-    board.node(node).next = Some(cell);
+    board.node(node).prepare(cell);
 }
 
 /// A copy of the pool's value.

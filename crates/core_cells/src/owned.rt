@@ -13,7 +13,7 @@ use crate::pool::PoolCell;
 use crate::slice::two_of;
 use std::alloc::{AllocError, Global};
 use std::marker::Model;
-use virtual_node::{NodeCell, Shape};
+use virtual_node::Shape;
 
 /// All cells of a network in one value.
 #[derive(Drop)]
@@ -117,10 +117,7 @@ fn empty_nodes(alloc: Global, count: u8) -> Result<Vec<NodePair>, AllocError>
 {
     let mut nodes = Vec::with_capacity(alloc, count as usize)?;
     for _ in 0..count {
-        nodes.push(NodePair {
-            now: NodeCell::new(),
-            next: None,
-        })?;
+        nodes.push(NodePair::new())?;
     }
     Ok(nodes)
 }

@@ -88,7 +88,7 @@ fn a_prepared_node_counts_once_it_is_settled(rt: HostRuntime) {
         id: 0,
         number: 1,
     });
-    prepare_node(&mut cells, 1, node);
+    prepare_node(&mut cells, 1, &node);
     assert_eq!(rt; held_node(&mut cells, 1).held(), 0);
     end_all(&mut cells, &[Some(CellName::Node(1))], Ending::Settle);
     assert_eq!(rt; held_node(&mut cells, 1).held(), 1);

@@ -1,1 +1,5 @@
 pub mod Drill
+pub mod Tally
+pub mod Replies
+pub mod Stops
+pub mod Talk

@@ -6,3 +6,6 @@ pub mod Turning
 pub mod Scenes
 pub mod Rows
 pub mod Wholes
+pub mod Sayings
+pub mod Finishes
+pub mod MemoryEnds

@@ -2,9 +2,11 @@
 #![tactic(auto)]
 
 mod actor;
+mod in_memory;
 mod turns;
 
 pub use actor::{Actor, Shown};
+pub use in_memory::replay_in_memory;
 pub use schedule::{Planned, Schedule, ScheduleFault, ScheduleRead, Why, read_schedule};
 pub use turns::replay;
 

@@ -1,6 +1,6 @@
 -- One message: what was read of it, and what was said.
 use Rattle.std.proofs.Common.{◌≡◌, ℕ, ◌<◌, List, [], ◌++◌, length, take, drop, Option, Some, None, Bool, true, false, refl, sym, ap, ◌∙◌, arith, subst, length-append, length-drop}
-use Rattle.std.specs.Prelude.{nat_lt}
+use Rattle.std.specs.Prelude.{nat_lt, Result, Ok, Err}
 use Rattle.std.proofs.lemmas.Bool.Decides.{nat_tests}
 use Rattle.std.proofs.lemmas.List.{take_all, take-append-drop}
 use Rattle.cqc_model.specs.declared.Header.{Header}
@@ -9,17 +9,17 @@ use Rattle.cqc_model.specs.declared.Reply.{Reply}
 use Rattle.session_model.specs.declared.Ending.{Ending}
 use Rattle.session_model.specs.declared.Ending.TheVariants.{Clean, Cut, ReadFault, WriteFault, Full, Spent}
 use Rattle.cqc_model.specs.Wire.{header_of, spell}
-use Rattle.cqc_model.specs.Plan.{Plan, fixed, steps, body_size, begins_whole, refusal_of, plan_of, plan_with, body_plan}
-use Rattle.cqc_program.specs.Rounds.{kind_of}
-use Rattle.session_model.specs.Walk.{Connection, Work, between, working, Leads}
+use Rattle.cqc_model.specs.Plan.{body_size, begins_whole}
+use Rattle.session_model.specs.Walk.{Connection, Work, between}
 use Rattle.session_model.specs.Speaks.{CutAt}
-use Rattle.cqc_model.proofs.Cuts.{IsMessage, message_of, header_front, body_part}
+use Rattle.cqc_model.proofs.Cuts.{IsMessage, header_front, body_part}
 use Rattle.session_model.proofs.Leading.{leads_nowhere, leads_plan, leads_start}
 use Rattle.qron_link.specs.Outside.{WasWritten}
 use Rattle.qron_link.proofs.Known.{written_none}
-use Rattle.cqc_session.specs.Reading.{Took, Sent}
-use Rattle.cqc_session.specs.Session.{Spoke, Paused, Broken, Halted, PartAs, HeadParted, BodyAs, BodyParted}
-use Rattle.cqc_session.proofs.Fills.{took_on}
+use Rattle.qron_link.specs.Transfers.{Took, Sent}
+use Rattle.cqc_session.specs.Session.{Paused, Broken, Halted, PartAs}
+use Rattle.cqc_session.specs.Parts.{Moment, Reads, HeadParted, BodyAs, BodyParted, BodyTaken, TakenAs}
+use Rattle.qron_link.proofs.Fills.{took_on}
 
 halted_by : (connection : Connection) (cap : ℕ) (old : Work) (left rest held wrote : Option (List ℕ)) (before now : ℕ) (ending : Ending) (part : List ℕ)
     → PartAs cap rest now part ending → Paused connection cap old left rest held wrote before now ending → Halted connection cap old left rest held wrote before now ending
@@ -38,9 +38,11 @@ paused_at connection cap left rest held wrote before now ending part took same n
     halted_by connection cap between left rest held wrote before now ending part why
     (record { taken = []; part = part; given = []; took = took; gave = written_none held wrote same; leads = leads_nowhere connection between; none = none; why = why })
 
-pub head_halts : (connection : Connection) (cap : ℕ) (left rest held wrote : Option (List ℕ)) (before now : ℕ) (ending : Ending)
-    → HeadParted cap left rest before now ending → wrote ≡ held → Halted connection cap between left rest held wrote before now ending
-head_halts connection cap left rest held wrote before now ending h same = paused_at connection cap left rest held wrote before now ending h.part h.took same h.none h.why
+pub head_halts : (connection : Connection) (cap : ℕ) (old new : Moment) (list : List Command) (notify : Bool) (result : Result (Option ℕ) Ending) (why : Ending)
+    → result ≡ Err why → HeadParted cap old new why → new.held ≡ old.held → TakenAs connection cap old new list notify result
+head_halts connection cap old new list notify result why is h same =
+    subst (λ (r : Result (Option ℕ) Ending). TakenAs connection cap old new list notify r) (sym is)
+    (paused_at connection cap old.left new.left old.held new.held old.budget new.budget why h.part h.took same h.none h.because)
 
 part_none : (head part : List ℕ) → length head ≡ 8 → length part < body_size head → begins_whole (head ++ part) ≡ false
 part_none head part eight less =
@@ -53,96 +55,122 @@ part_cut head part have need eight h n =
     let long : nat_lt (length (head ++ part)) 8 ≡ false = grind (arith, nat_tests, length-append) in
     rw long (omega (arith, length-append head part), n ∙ sym front)
 
-body_why : (cap : ℕ) (rest : Option (List ℕ)) (now : ℕ) (head part : List ℕ) (ending : Ending) → length head ≡ 8
-    → BodyAs cap rest now (body_size head) part ending → PartAs cap rest now (head ++ part) ending
-body_why cap rest now head part (Cut have need) eight why = (omega (arith, length-append head part), why.2, part_cut head part have need eight why.0 why.1)
-body_why cap rest now head part ReadFault eight why = tt
-body_why cap rest now head part (Spent bytes) eight why = why
-body_why cap rest now head part Clean eight why = absurd why
-body_why cap rest now head part WriteFault eight why = absurd why
-body_why cap rest now head part (Full entries) eight why = absurd why
+body_why : (cap : ℕ) (new : Moment) (head part : List ℕ) (ending : Ending) → length head ≡ 8
+    → BodyAs cap new (body_size head) part ending → PartAs cap new.left new.budget (head ++ part) ending
+body_why cap new head part (Cut have need) eight why = (omega (arith, length-append head part), why.2, part_cut head part have need eight why.0 why.1)
+body_why cap new head part ReadFault eight why = tt
+body_why cap new head part (Spent bytes) eight why = why
+body_why cap new head part Clean eight why = absurd why
+body_why cap new head part WriteFault eight why = absurd why
+body_why cap new head part (Full entries) eight why = absurd why
 
-pub body_halts : (connection : Connection) (cap : ℕ) (left mid rest held wrote : Option (List ℕ)) (before paid now size : ℕ) (head : List ℕ) (ending : Ending)
-    → Took left mid before paid head → length head ≡ 8 → size ≡ body_size head
-    → BodyParted cap mid rest paid now size ending → wrote ≡ held → Halted connection cap between left rest held wrote before now ending
-body_halts connection cap left mid rest held wrote before paid now size head ending took eight is b same =
-    paused_at connection cap left rest held wrote before now ending (head ++ b.part) (took_on _ _ _ _ _ _ _ _ took b.took) same
+pub body_halts : (connection : Connection) (cap also : ℕ) (old mid new : Moment) (head : List ℕ) (h : Header) (list : List Command) (notify : Bool)
+    (result : Result (Option ℕ) Ending) (why : Ending)
+    → result ≡ Err why → also ≡ cap → Reads old mid head → length head ≡ 8 → h ≡ header_of head → BodyParted also mid new h.length why → new.held ≡ old.held
+    → TakenAs connection cap old new list notify result
+body_halts connection cap also old mid new head h list notify result why is cap_is took eight h_is b same =
+    let size : h.length ≡ body_size head = ap (λ (x : Header). x.length) h_is in
+    subst (λ (r : Result (Option ℕ) Ending). TakenAs connection cap old new list notify r) (sym is)
+    (paused_at connection cap old.left new.left old.held new.held old.budget new.budget why (head ++ b.part) (took_on _ _ _ _ _ _ _ _ took b.took) same
     (part_none head b.part eight (omega (arith, b.less)))
-    (body_why cap rest now head b.part ending eight (subst (λ (n : ℕ). BodyAs cap rest now n b.part ending) is b.why))
+    (body_why cap new head b.part why eight
+    (subst (λ n. BodyAs cap new n b.part why) size (subst (λ n. BodyAs n new h.length b.part why) cap_is b.because))))
 
 -- A whole message.
-pub record MessageRead (left rest : Option (List ℕ)) (before now : ℕ) (head body : List ℕ) : Type 0 where
-  pub took : Took left rest before now (head ++ body)
+pub record MessageRead (old new : Moment) (head body : List ℕ) : Type 0 where
+  pub took : Reads old new (head ++ body)
   pub message : IsMessage head body
 
-pub message_read : (left mid rest : Option (List ℕ)) (before paid now size : ℕ) (head body : List ℕ)
-    → Took left mid before paid head → Took mid rest paid now body → length head ≡ 8 → size ≡ body_size head → length body ≡ size
-    → MessageRead left rest before now head body
-message_read left mid rest before paid now size head body f g eight is all = record {
-  took = took_on _ _ _ _ _ _ _ _ f g;
-  message = record { eight = eight; size = all ∙ is };
+message_read : (old mid new : Moment) (head : List ℕ) (list : List Command) (notify : Bool) (answer : Option Reply)
+    → Reads old mid head → length head ≡ 8 → (b : BodyTaken (header_of head) mid new list notify answer) → MessageRead old new head b.body
+message_read old mid new head list notify answer took eight b = record {
+  took = took_on _ _ _ _ _ _ _ _ took b.took;
+  message = record { eight = eight; size = b.all };
 }
 
-pub fewer : (left rest : Option (List ℕ)) (before now : ℕ) (head body : List ℕ) → MessageRead left rest before now head body → now < before
-fewer left rest before now head body read = omega (arith, read.took.paid, length-append head body, read.message.eight)
+fewer : (old new : Moment) (head body : List ℕ) → MessageRead old new head body → new.budget < old.budget
+fewer old new head body read = omega (arith, read.took.paid, length-append head body, read.message.eight)
 
-module _ (connection : Connection) (cap : ℕ) (left rest later held kept wrote : Option (List ℕ)) (before now : ℕ) (head body : List ℕ)
-    (read : MessageRead left rest before now head body) (stays : later ≡ rest) (same : kept ≡ held) where
-  took_later : Took left later before now (head ++ body)
-  took_later = subst (λ (x : Option (List ℕ)). Took left x before now (head ++ body)) (sym stays) read.took
+-- what is left, what may still be read, and what is held, behind a further write
+pub record Behind (new last : Moment) : Type 0 where
+  pub left : last.left ≡ new.left
+  pub budget : last.budget ≡ new.budget
 
-  pub said_fixed : (r : Reply) (app done : ℕ) → plan_of (message_of (header_of head) body) ≡ fixed r → app ≡ (header_of head).app
-      → Sent true kept wrote (spell app r) done → Spoke connection between left later held wrote before now between
-  said_fixed r app done is app_is s =
-      let all : take done (spell app r) ≡ spell (header_of head).app r =
-      take_all done (spell app r) (omega (arith, s.whole refl)) ∙ ap (λ n. spell n r) app_is in
+took_behind : (old new last : Moment) (bytes : List ℕ) → Reads old new bytes → Behind new last → Reads old last bytes
+took_behind old new last bytes t h =
+    subst (λ (n : ℕ). Took old.left last.left old.budget n bytes) (sym h.budget)
+    (subst (λ (x : Option (List ℕ)). Took old.left x old.budget new.budget bytes) (sym h.left) t)
+
+-- One message: its header was read, then its body, and its one answer was written where it has one.
+module _ (connection : Connection) (cap : ℕ) (old mid new : Moment) (head : List ℕ) (list : List Command) (notify : Bool)
+    (took : Reads old mid head) (eight : length head ≡ 8) (same : new.held ≡ old.held) where
+  opens : BodyTaken (header_of head) mid new list notify None → TakenAs connection cap old new list notify (Ok (Some (header_of head).app))
+  opens b =
+      let read = message_read old mid new head list notify None took eight b in (
+        record {
+          taken = head ++ b.body;
+          given = [];
+          took = read.took;
+          gave = written_none old.held new.held same;
+          leads = leads_start connection head b.body list notify read.message b.plan.0;
+        },
+        fewer old new head b.body read,
+        b.plan.1,
+      )
+
+  says : (last : Moment) (r : Reply) (done : ℕ) → BodyTaken (header_of head) mid new list notify (Some r) → Behind new last
+      → Sent true new.held last.held (spell (header_of head).app r) done → TakenAs connection cap old last list notify (Ok None)
+  says last r done b behind s =
+      let read = message_read old mid new head list notify (Some r) took eight b in
+      let all : take done (spell (header_of head).app r) ≡ spell (header_of head).app r =
+      take_all done (spell (header_of head).app r) (omega (arith, s.whole refl)) in (
+        record {
+          taken = head ++ b.body;
+          given = spell (header_of head).app r;
+          took = took_behind old new last (head ++ b.body) read.took behind;
+          gave = subst (λ (x : Option (List ℕ)). WasWritten x (spell (header_of head).app r) last.held) same
+              (subst (λ (x : List ℕ). WasWritten new.held x last.held) all s.wrote);
+          leads = leads_plan connection head b.body r read.message b.plan;
+        },
+        omega (arith, fewer old new head b.body read, behind.budget),
+        omega arith,
+      )
+
+  breaks : (last : Moment) (r : Reply) (done : ℕ) → BodyTaken (header_of head) mid new list notify (Some r) → Behind new last
+      → Sent false new.held last.held (spell (header_of head).app r) done → Broken connection between old.left last.left old.held last.held old.budget last.budget
+  breaks last r done b behind s =
+      let read = message_read old mid new head list notify (Some r) took eight b in
       record {
-        taken = head ++ body;
-        given = spell (header_of head).app r;
-        took = took_later;
-        gave = subst (λ (x : Option (List ℕ)). WasWritten x (spell (header_of head).app r) wrote) same
-            (subst (λ (x : List ℕ). WasWritten kept x wrote) all s.wrote);
-        leads = leads_plan connection head body r read.message is;
-      }
-
-  pub broke_fixed : (r : Reply) (app done : ℕ) → plan_of (message_of (header_of head) body) ≡ fixed r → app ≡ (header_of head).app
-      → Sent false kept wrote (spell app r) done → Broken connection between left later held wrote before now
-  broke_fixed r app done is app_is s =
-      record {
-        taken = head ++ body;
+        taken = head ++ b.body;
         whole = spell (header_of head).app r;
-        given = take done (spell app r);
-        took = took_later;
-        gave = subst (λ (x : Option (List ℕ)). WasWritten x (take done (spell app r)) wrote) same s.wrote;
-        leads = leads_plan connection head body r read.message is;
+        given = take done (spell (header_of head).app r);
+        took = took_behind old new last (head ++ b.body) read.took behind;
+        gave = subst (λ (x : Option (List ℕ)). WasWritten x (take done (spell (header_of head).app r)) last.held) same s.wrote;
+        leads = leads_plan connection head b.body r read.message b.plan;
         short = (
-          drop done (spell app r),
-          omega (arith, length-drop done (spell app r), s.part refl),
-          take-append-drop done (spell app r) ∙ ap (λ n. spell n r) app_is,
+          drop done (spell (header_of head).app r),
+          omega (arith, length-drop done (spell (header_of head).app r), s.part refl),
+          take-append-drop done (spell (header_of head).app r),
         );
       }
 
-  pub opened : (list : List Command) (notify : Bool) (app : ℕ) → plan_of (message_of (header_of head) body) ≡ steps list notify
-      → app ≡ (header_of head).app → wrote ≡ held → Spoke connection between left later held wrote before now (working app list notify)
-  opened list notify app is app_is still =
-      record {
-        taken = head ++ body;
-        given = [];
-        took = took_later;
-        gave = written_none held wrote still;
-        leads = subst (λ n. Leads connection between (head ++ body) [] [] [] (working n list notify)) (sym app_is)
-            (leads_start connection head body list notify read.message is);
-      }
+  pub opened : (h : Header) (answer : Option Reply) → h ≡ header_of head → answer ≡ None → BodyTaken h mid new list notify answer
+      → TakenAs connection cap old new list notify (Ok (Some h.app))
+  opened h answer h_is is b =
+      subst (λ (x : Header). BodyTaken x mid new list notify None → TakenAs connection cap old new list notify (Ok (Some x.app))) (sym h_is) opens
+      (subst (λ (o : Option Reply). BodyTaken h mid new list notify o) is b)
 
--- The plan of a message, by its header or by its body.
-pub plan_refused : (h : Header) (head body : List ℕ) (r : Reply) → h ≡ header_of head → refusal_of h ≡ Some r
-    → plan_of (message_of (header_of head) body) ≡ fixed r
-plan_refused h head body r e is =
-    ap (λ (o : Option Reply). plan_with o (message_of (header_of head) body)) (ap refusal_of (sym e) ∙ is)
+  pub answered : (last : Moment) (h : Header) (answer : Option Reply) (r : Reply) (done : ℕ) → h ≡ header_of head → answer ≡ Some r → BodyTaken h mid new list notify answer
+      → Behind new last → Sent true new.held last.held (spell h.app r) done → TakenAs connection cap old last list notify (Ok None)
+  answered last h answer r done h_is is b behind =
+      subst (λ (x : Header). BodyTaken x mid new list notify (Some r) → Sent true new.held last.held (spell x.app r) done → TakenAs connection cap old last list notify (Ok None))
+      (sym h_is) (λ taken. says last r done taken behind) (subst (λ (o : Option Reply). BodyTaken h mid new list notify o) is b)
 
-pub plan_opened : (factory : Bool) (h : Header) (head body : List ℕ) (p : Plan) → h ≡ header_of head → refusal_of h ≡ None → h.kind ≡ kind_of factory
-    → body_plan (kind_of factory) body ≡ p
-    → plan_of (message_of (header_of head) body) ≡ p
-plan_opened factory h head body p e none kind is =
-    ap (λ (o : Option Reply). plan_with o (message_of (header_of head) body)) (ap refusal_of (sym e) ∙ none)
-    ∙ ap (λ (k : Header). body_plan k.kind body) (sym e) ∙ ap (λ n. body_plan n body) kind ∙ is
+  pub broke : (last : Moment) (h : Header) (answer : Option Reply) (r : Reply) (done : ℕ) (result : Result (Option ℕ) Ending) (why : Ending) → result ≡ Err why → why ≡ WriteFault
+      → h ≡ header_of head → answer ≡ Some r → BodyTaken h mid new list notify answer → Behind new last → Sent false new.held last.held (spell h.app r) done
+      → TakenAs connection cap old last list notify result
+  broke last h answer r done result why is fault h_is some b behind s =
+      subst (λ (x : Result (Option ℕ) Ending). TakenAs connection cap old last list notify x) (sym (is ∙ ap Err fault))
+      (subst (λ (x : Header). BodyTaken x mid new list notify (Some r) → Sent false new.held last.held (spell x.app r) done
+      → Broken connection between old.left last.left old.held last.held old.budget last.budget)
+      (sym h_is) (λ taken. breaks last r done taken behind) (subst (λ (o : Option Reply). BodyTaken h mid new list notify o) some b) s)

@@ -1,7 +1,7 @@
 -- A session over a core, call after call.
-use Rattle.std.proofs.Common.{◌≡◌, ℕ, ◌+◌, ◌<◌, List, [], ◌∷◌, ◌++◌, length, Option, Some, None, Result, Ok, Err, Bool, false, refl, sym, ap, ◌∙◌, arith, subst, inl, inr, length-append}
+use Rattle.std.proofs.Common.{◌≡◌, ℕ, ◌+◌, ◌<◌, List, [], ◌∷◌, ◌++◌, length, Option, Some, None, Result, Ok, Err, Bool, false, refl, sym, ap, ◌∙◌, arith, subst, inr}
 use Rattle.std.specs.Prelude.{MatchResult}
-use Rattle.std.proofs.lemmas.List.{append-nil, append_assoc, map-append}
+use Rattle.std.proofs.lemmas.List.{append-nil, append_assoc}
 use Rattle.cqc_model.specs.declared.Command.{Command}
 use Rattle.network_model.specs.declared.Call.{Call}
 use Rattle.network_model.specs.declared.Entry.{Entry}
@@ -13,10 +13,9 @@ use Rattle.session_model.specs.declared.Ending.{Ending}
 use Rattle.session_model.specs.declared.Ending.TheVariants.{Clean, Cut, ReadFault, WriteFault, Full, Spent}
 use Rattle.cqc_model.specs.Wire.{spell}
 use Rattle.session_model.specs.Walk.{spell_core}
-use Rattle.cqc_model.specs.Plan.{Cutting, messages, rest, begins_whole}
-use Rattle.session_model.specs.Walk.{Connection, Said, Work, between, working, call_of, then_said, walk, walk_from, Leads}
-use Rattle.session_model.specs.Speaks.{Setting, Speaks, EndsAs, CutAt, ProperPrefix, Prefix, due_list, calls_of, replies_of, but_last}
-use Rattle.cqc_model.proofs.Cuts.{short_part, cut_part}
+use Rattle.cqc_model.specs.Plan.{messages, rest, begins_whole}
+use Rattle.session_model.specs.Walk.{Connection, Said, Work, between, working, call_of, walk, Leads}
+use Rattle.session_model.specs.Speaks.{Speaks, CutAt, Prefix, calls_of, replies_of, but_last}
 use Rattle.session_model.proofs.Leading.{leads_nowhere, said_so_far, left_so_far, work_after}
 use Rattle.session_model.proofs.Speaking.{but_last_push, calls_push, replies_push, leads_more, leads_asked, due_text, speaks_by, broken_speaks, asked_step}
 use Rattle.qron_link.specs.Outside.{WasRead, WasWritten}
@@ -24,7 +23,7 @@ use Rattle.qron_link.proofs.Known.{read_none, written_none, written_on}
 use Rattle.cqc_session.specs.State.{State, Waits}
 use Rattle.cqc_session.specs.Session.{Spoke, Paused, Halted, PartAs, PartSaid, Resumes, GoesOn, AnswerEnds}
 use Rattle.cqc_session.specs.Serving.{Added, WasFull, Serving, Served}
-use Rattle.cqc_session.proofs.Fills.{took_on}
+use Rattle.qron_link.proofs.Fills.{took_on}
 
 -- nothing has come yet
 pub begins : (connection : Connection) (cap now : ℕ) (left held : Option (List ℕ)) (old : List Entry) (w : Work) → w ≡ between → now ≡ cap
@@ -251,7 +250,7 @@ module _ (connection : Connection) (cap : ℕ) (left rest_left held said wrote :
 abbrev pub CoreDid : Call → Result CoreReply JournalFull → ℕ → ℕ → List Entry → List Entry → Type 0
 CoreDid call done seen capacity mid new = MatchResult done (λ r. Added call r mid new) (λ e. WasFull e capacity seen mid new)
 
-pub answer_ends : (connection : Connection) (cap : ℕ) (left rest_left held said wrote : Option (List ℕ)) (now : ℕ) (old mid new : List Entry) (seen capacity : ℕ) (v : Work) (call : Call)
+answer_ends : (connection : Connection) (cap : ℕ) (left rest_left held said wrote : Option (List ℕ)) (now : ℕ) (old mid new : List Entry) (seen capacity : ℕ) (v : Work) (call : Call)
     (done : Result CoreReply JournalFull) (ending : Ending)
     → Asking connection cap left rest_left held said now old mid v call → CoreDid call done seen capacity mid new → AnswerEnds ending call.app done said wrote
     → Served connection cap left rest_left held wrote old new seen capacity ending
@@ -264,7 +263,7 @@ answer_ends connection cap left rest_left held said wrote now old mid new seen c
 answer_ends connection cap left rest_left held said wrote now old mid new seen capacity v call done ReadFault a did e = absurd e
 answer_ends connection cap left rest_left held said wrote now old mid new seen capacity v call done (Spent bytes) a did e = absurd e
 
-pub answer_goes : (connection : Connection) (cap : ℕ) (left rest_left held said wrote : Option (List ℕ)) (now : ℕ) (old mid new : List Entry) (seen capacity : ℕ) (v w : Work) (call : Call)
+answer_goes : (connection : Connection) (cap : ℕ) (left rest_left held said wrote : Option (List ℕ)) (now : ℕ) (old mid new : List Entry) (seen capacity : ℕ) (v w : Work) (call : Call)
     (done : Result CoreReply JournalFull)
     → Asking connection cap left rest_left held said now old mid v call → CoreDid call done seen capacity mid new → GoesOn connection v call said wrote done w
     → Serving connection cap left rest_left held wrote now old new w
@@ -273,7 +272,7 @@ answer_goes connection cap left rest_left held said wrote now old mid new seen c
 answer_goes connection cap left rest_left held said wrote now old mid new seen capacity v w call (Err f) a did e = absurd e
 
 -- The same between states of a session.
-pub poll_goes : (connection : Connection) (cap : ℕ) (left mid rest_left held said wrote : Option (List ℕ)) (s t : State) (old new : List Entry)
+poll_goes : (connection : Connection) (cap : ℕ) (left mid rest_left held said wrote : Option (List ℕ)) (s t : State) (old new : List Entry)
     → Serving connection cap left mid held said s.budget old new s.work → s.connection ≡ connection
     → Spoke s.connection s.work mid rest_left said wrote s.budget t.budget t.work → Serving connection cap left rest_left held wrote t.budget old new t.work
 poll_goes connection cap left mid rest_left held said wrote s t old new f same spoke =
@@ -288,7 +287,7 @@ poll_ends connection cap left mid rest_left held said wrote s t old new seen cap
     (subst (λ (n : ℕ). Halted connection n s.work mid rest_left said wrote s.budget t.budget ending) cap_is
     (subst (λ (p : Connection). Halted p s.cap s.work mid rest_left said wrote s.budget t.budget ending) same halted))
 
-pub asking : (connection : Connection) (cap : ℕ) (left rest_left held said : Option (List ℕ)) (t : State) (old mid : List Entry) (call : Call)
+asking : (connection : Connection) (cap : ℕ) (left rest_left held said : Option (List ℕ)) (t : State) (old mid : List Entry) (call : Call)
     → Serving connection cap left rest_left held said t.budget old mid t.work → t.connection ≡ connection → Waits call t
     → Asking connection cap left rest_left held said t.budget old mid t.work call
 asking connection cap left rest_left held said t old mid call f same w = record {
@@ -299,18 +298,37 @@ asking connection cap left rest_left held said t old mid call f same w = record 
   call_is = w.call_is ∙ ap (λ (p : Connection). call_of p call.app call.command) same;
 }
 
-pub goes_at : (connection also : Connection) (v w : Work) (call : Call) (said wrote : Option (List ℕ)) (done : Result CoreReply JournalFull)
-    → also ≡ connection → GoesOn also v call said wrote done w → GoesOn connection v call said wrote done w
-goes_at connection also v w call said wrote done same e = subst (λ (p : Connection). GoesOn p v call said wrote done w) same e
-
-pub served_at : (connection : Connection) (cap : ℕ) (left rest_left later held wrote : Option (List ℕ)) (old new : List Entry) (seen m n : ℕ) (ending : Ending)
+served_at : (connection : Connection) (cap : ℕ) (left rest_left later held wrote : Option (List ℕ)) (old new : List Entry) (seen m n : ℕ) (ending : Ending)
     → later ≡ rest_left → m ≡ n → Served connection cap left rest_left held wrote old new seen m ending → Served connection cap left later held wrote old new seen n ending
 served_at connection cap left rest_left later held wrote old new seen m n ending e f s =
     subst (λ (k : ℕ). Served connection cap left later held wrote old new seen k ending) f
     (subst (λ (x : Option (List ℕ)). Served connection cap left x held wrote old new seen m ending) (sym e) s)
 
-pub serving_at : (connection : Connection) (cap : ℕ) (left rest_left later held wrote : Option (List ℕ)) (m n : ℕ) (old new : List Entry) (w : Work)
+serving_at : (connection : Connection) (cap : ℕ) (left rest_left later held wrote : Option (List ℕ)) (m n : ℕ) (old new : List Entry) (w : Work)
     → later ≡ rest_left → n ≡ m → Serving connection cap left rest_left held wrote m old new w → Serving connection cap left later held wrote n old new w
 serving_at connection cap left rest_left later held wrote m n old new w e f s =
     subst (λ (k : ℕ). Serving connection cap left later held wrote k old new w) (sym f)
     (subst (λ (x : Option (List ℕ)). Serving connection cap left x held wrote m old new w) (sym e) s)
+
+-- One round: s asked a call and became t, and the core answered it. A reply leaves the bytes that are left.
+module _ (connection : Connection) (cap : ℕ) (left mid rest_left later held said gave wrote : Option (List ℕ)) (s t : State) (old between_entries new : List Entry)
+    (seen capacity : ℕ) (call : Call) (done : Result CoreReply JournalFull) (stays : later ≡ rest_left)
+    (so_far : Serving connection cap left mid held said s.budget old between_entries s.work) (same : s.connection ≡ connection) (kept : t.connection ≡ s.connection)
+    (turn : Spoke s.connection s.work mid rest_left said gave s.budget t.budget t.work × Waits call t) (did : CoreDid call done seen capacity between_entries new) where
+  asks : Asking connection cap left rest_left held gave t.budget old between_entries t.work call
+  asks =
+      asking connection cap left rest_left held gave t old between_entries call
+      (poll_goes connection cap left mid rest_left held said gave s t old between_entries so_far same turn.0) (kept ∙ same) turn.1
+
+  pub round_ends : (n : ℕ) (ending : Ending) → capacity ≡ n → AnswerEnds ending call.app done gave wrote
+      → Served connection cap left later held wrote old new seen n ending
+  round_ends n ending full e =
+      served_at connection cap left rest_left later held wrote old new seen capacity n ending stays full
+      (answer_ends connection cap left rest_left held gave wrote t.budget old between_entries new seen capacity t.work call done ending asks did e)
+
+  pub round_goes : (now : ℕ) (w : Work) → now ≡ t.budget → GoesOn t.connection t.work call gave wrote done w
+      → Serving connection cap left later held wrote now old new w
+  round_goes now w paid e =
+      serving_at connection cap left rest_left later held wrote t.budget now old new w stays paid
+      (answer_goes connection cap left rest_left held gave wrote t.budget old between_entries new seen capacity t.work w call done asks did
+      (subst (λ (p : Connection). GoesOn p t.work call gave wrote done w) (kept ∙ same) e))

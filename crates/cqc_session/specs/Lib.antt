@@ -1,5 +1,5 @@
 pub mod Body
-pub mod Reading
 pub mod Session
+pub mod Parts
 pub mod State
 pub mod Serving

@@ -11,7 +11,7 @@ use Rattle.session_model.specs.Turns.{words_taken}
 use Rattle.session_model.specs.Worded.{AreWorded}
 use Rattle.session_model.specs.Speaks.{Speaks, Prefix, calls_of, replies_of, but_last}
 use Rattle.qron_link.specs.Outside.{WasRead, WasWritten}
-use Rattle.cqc_session.specs.Reading.{Took}
+use Rattle.qron_link.specs.Transfers.{Took}
 
 -- the call and its reply were added, with a word or none
 pub record Added (call : Call) (reply : CoreReply) (old new : List Entry) : Type 0 where

@@ -1,33 +1,22 @@
 -- What a call of a session did to its link.
-use Rattle.std.specs.Prelude.{◌≡◌, ◌≢◌, ℕ, ◌<◌, ◌≤◌, List, [], ◌∷◌, ◌++◌, length, Option, None, Some, Bool, true, false, Result, Ok, Err}
+use Rattle.std.specs.Prelude.{◌≡◌, ℕ, ◌<◌, ◌≤◌, List, [], ◌∷◌, ◌++◌, length, Option, false, Result, Ok, Err}
 use Rattle.session_model.specs.declared.Ending.{Ending}
 use Rattle.session_model.specs.declared.Ending.TheVariants.{Clean, Cut, ReadFault, WriteFault, Full, Spent}
 use Rattle.network_model.specs.declared.Call.{Call}
-use Rattle.cqc_model.specs.declared.Command.{Command}
 use Rattle.network_model.specs.declared.CoreReply.{CoreReply}
 use Rattle.network_model.specs.declared.JournalFull.{JournalFull}
-use Rattle.cqc_model.specs.declared.Instr.TheVariants.{Allocate}
 use Rattle.cqc_model.specs.declared.Fault.TheVariants as fault
 use Rattle.cqc_model.specs.declared.Reply.TheVariants as reply
 use Rattle.cqc_model.specs.Wire.{spell}
 use Rattle.session_model.specs.Walk.{spell_core}
-use Rattle.cqc_model.specs.declared.Header.{Header}
-use Rattle.cqc_model.specs.Plan.{begins_whole, refusal_of, body_limit}
-use Rattle.cqc_program.specs.Rounds.{kind_of}
-use Rattle.cqc_program.specs.Walks.{walk_limit}
-use Rattle.cqc_session.specs.declared.message.Asked.{Asked}
-use Rattle.cqc_session.specs.declared.message.Asked.TheVariants as asked
-use Rattle.session_model.specs.Walk.{Connection, Work, between, working, Leads}
+use Rattle.cqc_model.specs.Plan.{begins_whole}
+use Rattle.session_model.specs.Walk.{Connection, Work, between, Leads}
 use Rattle.session_model.specs.Speaks.{CutAt, ProperPrefix}
 use Rattle.qron_link.specs.Outside.{Rose, WasWritten, AtEnd}
-use Rattle.cqc_session.specs.declared.take.Taken.{Taken}
-use Rattle.cqc_session.specs.declared.take.Taken.TheVariants.{Answered, Opened, Stopped}
-use Rattle.cqc_session.specs.declared.next.Next.{Next}
-use Rattle.cqc_session.specs.declared.next.Next.TheVariants.{Ask, Ready, Refused}
 use Rattle.cqc_session.specs.declared.turn.Turn.{Turn}
 use Rattle.cqc_session.specs.declared.turn.Turn.TheVariants.{Execute, End}
-use Rattle.cqc_session.specs.State.{State, Waits, work_of}
-use Rattle.cqc_session.specs.Reading.{Took}
+use Rattle.cqc_session.specs.State.{State, Waits}
+use Rattle.qron_link.specs.Transfers.{Took}
 
 -- it went on: bytes were read, bytes were written, and more is to be said from new
 pub record Spoke (connection : Connection) (old : Work) (left rest held wrote : Option (List ℕ)) (before now : ℕ) (new : Work) : Type 0 where
@@ -106,71 +95,6 @@ pub record Resumes (connection : Connection) (old : Work) (call : Call) (held wr
 abbrev pub GoesOn : Connection → Work → Call → Option (List ℕ) → Option (List ℕ) → Result CoreReply JournalFull → Work → Type 0
 GoesOn connection old call held wrote (Ok r) new = Resumes connection old call held wrote r new
 GoesOn connection old call held wrote (Err e) new = ⊥
-
--- a header was cut short, or nothing came
-pub record HeadParted (cap : ℕ) (left rest : Option (List ℕ)) (before now : ℕ) (ending : Ending) : Type 0 where
-  pub part : List ℕ
-  pub took : Took left rest before now part
-  pub none : begins_whole part ≡ false
-  pub why : PartAs cap rest now part ending
-
--- why a body was cut short
-abbrev pub BodyAs : ℕ → Option (List ℕ) → ℕ → ℕ → List ℕ → Ending → Type 0
-BodyAs cap rest now size part (Cut have need) = (have ≡ length part) × (need ≡ size) × AtEnd rest
-BodyAs cap rest now size part ReadFault = Unit {0}
-BodyAs cap rest now size part (Spent bytes) = (now ≡ 0) × (bytes ≡ cap)
-BodyAs cap rest now size part _ = ⊥
-
-pub record BodyParted (cap : ℕ) (left rest : Option (List ℕ)) (before now size : ℕ) (ending : Ending) : Type 0 where
-  pub part : List ℕ
-  pub took : Took left rest before now part
-  pub less : length part < size
-  pub why : BodyAs cap rest now size part ending
-
--- so many bytes were read
-pub record WholeRead (left rest : Option (List ℕ)) (before now size : ℕ) : Type 0 where
-  pub taken : List ℕ
-  pub took : Took left rest before now taken
-  pub all : length taken ≡ size
-
--- the room was filled
-pub record RoomRead (left rest : Option (List ℕ)) (before now : ℕ) (room : List ℕ) : Type 0 where
-  pub took : Took left rest before now room
-
--- a failed read rose its count
-abbrev pub PartCause : Ending → ℕ → ℕ → Type 0
-PartCause ReadFault reads now_reads = (reads ≤ now_reads) × Rose reads now_reads
-PartCause _ reads now_reads = reads ≤ now_reads
-
--- what a header says of its message
-abbrev pub AskedAs : Header → Asked → Type 0
-AskedAs h (asked.Fixed r) = refusal_of h ≡ Some r
-AskedAs h (asked.List factory) = (refusal_of h ≡ None) × (h.kind ≡ kind_of factory) × (h.length ≤ body_limit)
-
--- what taking one message did
-abbrev pub TakenAs : Connection → ℕ → Option (List ℕ) → Option (List ℕ) → Option (List ℕ) → Option (List ℕ) → ℕ → ℕ → List Command → Bool → Taken → Type 0
-TakenAs connection cap left rest held wrote before now list notify Answered =
-    Spoke connection between left rest held wrote before now between × (now < before)
-TakenAs connection cap left rest held wrote before now list notify (Opened app) =
-    Spoke connection between left rest held wrote before now (working app list notify) × (now < before) × (length list < walk_limit)
-TakenAs connection cap left rest held wrote before now list notify (Stopped ending) = Halted connection cap between left rest held wrote before now ending
-
-abbrev pub TakenCause : Taken → ℕ → ℕ → ℕ → ℕ → Type 0
-TakenCause (Stopped ending) reads now_reads writes now_writes = EndCause ending reads now_reads writes now_writes
-TakenCause _ reads now_reads writes now_writes = (reads ≤ now_reads) × (writes ≤ now_writes)
-
--- what looking for the next command did: busy with these commands for an app, or between two messages
-abbrev pub NextAs : Connection → Bool → ℕ → List Command → Bool → Option (List ℕ) → Option (List ℕ) → Option (List ℕ) → Option (List ℕ) → Next → Type 0
-NextAs connection busy app list notify left rest held wrote (Ask c) =
-    (busy ≡ true) × (others : List Command) × (list ≡ c ∷ others) × (rest ≡ left) × (wrote ≡ held) × (c.instr ≢ Allocate)
-NextAs connection busy app list notify left rest held wrote Ready =
-    (n : ℕ) → Spoke connection (work_of busy app list notify) left rest held wrote n n between
-NextAs connection busy app list notify left rest held wrote Refused =
-    (n : ℕ) → Broken connection (work_of busy app list notify) left rest held wrote n n
-
-abbrev pub NextCause : Next → ℕ → ℕ → Type 0
-NextCause Refused writes now_writes = (writes ≤ now_writes) × Rose writes now_writes
-NextCause _ writes now_writes = writes ≤ now_writes
 
 -- what a poll did
 abbrev pub PollDid : State → State → Option (List ℕ) → Option (List ℕ) → Option (List ℕ) → Option (List ℕ) → Turn → Type 0

@@ -1,5 +1,5 @@
 -- What a contract sees of a session.
-use Rattle.std.specs.Prelude.{◌≡◌, ◌≢◌, ℕ, ◌+◌, ◌*◌, List, ◌∷◌, length, Bool, if◌then◌else◌, Option, None, Some}
+use Rattle.std.specs.Prelude.{◌≡◌, ◌≢◌, ℕ, ◌+◌, ◌*◌, List, ◌∷◌, length, Bool, Option, None, Some}
 use Rattle.cqc_model.specs.declared.Command.{Command}
 use Rattle.cqc_model.specs.declared.Instr.TheVariants.{Allocate}
 use Rattle.network_model.specs.declared.Call.{Call}
@@ -7,7 +7,6 @@ use Rattle.session_model.specs.Walk.{Connection, Work, between, working, call_of
 use Rattle.session_model.specs.declared.Ending.{Ending}
 use Rattle.cqc_program.specs.Walks.{walk_limit}
 use Rattle.cqc_session.specs.declared.stage.Stage.{Stage}
-use Rattle.cqc_program.specs.Walks.{walk_limit}
 use Rattle.cqc_session.specs.declared.stage.Stage.TheVariants.{Closed, Ready, Waiting}
 use Rattle.cqc_session.specs.declared.turn.Turn.{Turn}
 use Rattle.cqc_session.specs.declared.turn.Turn.TheVariants.{Execute, End}
@@ -20,8 +19,10 @@ pub record State : Type 0 where
   pub work : Work
   pub stage : Stage
 
-abbrev pub work_of : Bool → ℕ → List Command → Bool → Work
-work_of busy app list notify = if busy then working app list notify else between
+-- the work while the message of an app is open, or none is
+abbrev pub work_of : Option ℕ → List Command → Bool → Work
+work_of None list notify = between
+work_of (Some app) list notify = working app list notify
 
 -- it waits for the reply to this call
 pub record Waits (call : Call) (s : State) : Type 0 where

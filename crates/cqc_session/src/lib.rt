@@ -1,12 +1,12 @@
 //! One connection: its bytes as a function of the core's replies.
 #![tactic(auto)]
 
+mod allowance;
 mod message;
 mod next;
 mod over_core;
 mod part;
 mod program;
-mod reading;
 mod reply;
 mod session;
 mod solo;

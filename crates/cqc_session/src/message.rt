@@ -1,13 +1,14 @@
 // One message, read whole and answered or opened.
-ghost use Rattle.std.specs.Prelude.{◌≡◌, ℕ, ◌<◌, ◌≤◌};
+ghost use Rattle.std.specs.Prelude.{◌≡◌, ℕ, ◌<◌, ◌≤◌, IfErr, is_ok};
 ghost use Rattle.cqc_model.specs.Wire.{spell};
-ghost use Rattle.cqc_session.specs.Session.{AskedAs};
-ghost use Rattle.cqc_session.specs.Reading.{Sent, SentCause};
+ghost use Rattle.session_model.specs.declared.Ending.TheVariants.{WriteFault};
+ghost use Rattle.cqc_session.specs.Parts.{AskedAs};
+ghost use Rattle.qron_link.specs.Transfers.{Sent, SentCause};
 
-use crate::reading::send;
 use cqc_model::{BODY_LIMIT, Fault, Header, Reply};
 use cqc_wire::{kind, write_reply};
-use qron_link::Link;
+use qron_link::{Link, NotSent, send_link};
+use session_model::Ending;
 
 // The version of all messages.
 const VERSION: u8 = 2;
@@ -42,15 +43,19 @@ pub fn asked_by(header: &Header) -> Asked
     Asked::List { factory }
 }
 
-/// Writes a reply, and says whether all of it was written.
-pub fn say<L: Link>(link: &mut L, app: u16, reply: &Reply) -> bool
-    ensures sent { (done : ℕ) × Sent result (L.held link.old) (L.held link.new) (spell app reply.now) done }
-    ensures cause { SentCause result (L.write_faults link.old) (L.write_faults link.new) }
+/// Writes a reply.
+pub fn say<L: Link>(link: &mut L, app: u16, reply: &Reply) -> Result<(), Ending>
+    ensures sent { (done : ℕ) × Sent (is_ok result) (L.held link.old) (L.held link.new) (spell app reply.now) done }
+    ensures fault { IfErr result (λ ending. ending ≡ WriteFault) }
+    ensures cause { SentCause (is_ok result) (L.write_faults link.old) (L.write_faults link.new) }
     ensures left { L.left link.new ≡ L.left link.old }
     ensures read_faults { L.read_faults link.new ≡ L.read_faults link.old }
     ensures led { L.was_led link.old link.new }
 {
     let mut out = [0u8; 50];
     let size = write_reply(&mut out, app, reply);
-    send(link, &out[..size])
+    match send_link(link, &out[..size]) {
+        Ok(()) => Ok(()),
+        Err(NotSent) => Err(Ending::WriteFault),
+    }
 }

@@ -1,13 +1,14 @@
 // The body of a message, and the walk over its commands.
-ghost use Rattle.std.specs.Prelude.{◌≡◌, ◌≢◌, ℕ, ◌<◌, ◌≤◌, List, [], ◌∷◌, length, take, drop, vec_len, ◌&&◌, if◌then◌else◌, MatchOption, MatchResult, IfNone, IfOk, IfSome};
+ghost use Rattle.std.specs.Prelude.{◌≡◌, ◌≢◌, ℕ, ◌<◌, ◌≤◌, List, [], ◌∷◌, length, take, drop, vec_len, ◌&&◌, if◌then◌else◌, MatchOption, MatchResult, IfOk, IfSome};
 ghost use Rattle.cqc_model.specs.Plan.{body_limit, body_plan, fixed, steps};
 ghost use Rattle.cqc_model.specs.declared.Instr.TheVariants.{Allocate};
 ghost use Rattle.cqc_model.specs.declared.Reply.TheVariants.{Error};
 ghost use Rattle.cqc_program.specs.Rounds.{kind_of};
 ghost use Rattle.cqc_program.specs.Walks.{walk_limit};
 ghost use Rattle.cqc_session.specs.Body.{Program, left_over, notify_over, WalksOver};
-ghost use Rattle.cqc_session.specs.Session.{BodyParted, RoomRead, PartCause};
+ghost use Rattle.cqc_session.specs.Parts.{moment, Reads, BodyParted, PartCause, OnlyRead};
 
+use crate::allowance::Allowance;
 use crate::part::keep_body;
 use cqc_model::{BODY_LIMIT, BodyFault, Command, Fault};
 use cqc_program::Walk;
@@ -52,26 +53,21 @@ impl Program {
         &mut self,
         link: &mut L,
         size: u32,
-        budget: &mut u64,
-        cap: u64,
-    ) -> Option<Ending>
+        allowance: &mut Allowance,
+    ) -> Result<(), Ending>
         requires { size ≤ body_limit }
-        ensures body { MatchOption result (RoomRead (L.left link.old) (L.left link.new) budget.old budget.new self.new.body)
-            (BodyParted cap (L.left link.old) (L.left link.new) budget.old budget.new size) }
-        ensures size { IfNone result (length self.new.body ≡ size) }
-        ensures cause { MatchOption result (L.read_faults link.old ≤ L.read_faults link.new)
-            (λ ending. PartCause ending (L.read_faults link.old) (L.read_faults link.new)) }
-        ensures held { L.held link.new ≡ L.held link.old }
-        ensures write_faults { L.write_faults link.new ≡ L.write_faults link.old }
-        ensures led { L.was_led link.old link.new }
+        ensures body { MatchResult result
+            (λ _. Reads (moment L.left L.held link.old allowance.old.left) (moment L.left L.held link.new allowance.new.left) self.new.body × (length self.new.body ≡ size))
+            (BodyParted allowance.old.cap (moment L.left L.held link.old allowance.old.left) (moment L.left L.held link.new allowance.new.left) size) }
+        ensures cap { allowance.new.cap ≡ allowance.old.cap }
+        ensures cause { PartCause result (L.read_faults link.old) (L.read_faults link.new) }
+        ensures link { OnlyRead L.held L.write_faults L.was_led link.old link.new }
     {
         self.size = 0;
         self.walk = None;
-        if let Some(ending) = keep_body(link, &mut self.room, size, budget, cap) {
-            return Some(ending);
-        }
+        keep_body(link, &mut self.room, size, allowance)?;
         self.size = size;
-        None
+        Ok(())
     }
 
     /// Opens the body of a COMMAND or FACTORY message. A fault is its one answer.

@@ -1,14 +1,13 @@
-// The bytes of what the core replied.
-ghost use Rattle.std.specs.Prelude.{◌≡◌, ℕ, [], MatchOption};
-ghost use Rattle.cqc_model.specs.Wire.{spell};
+// The bytes of what the core answered.
+ghost use Rattle.std.specs.Prelude.{◌≡◌, ℕ, [], ◌≤◌, length, take, MatchOption};
+ghost use Rattle.cqc_model.specs.Wire.{spell, reply_limit};
 ghost use Rattle.session_model.specs.Walk.{spell_core};
 ghost use Rattle.network_model.specs.History.{is_error};
-ghost use Rattle.cqc_session.specs.Reading.{Sent, SentCause};
+ghost use Rattle.cqc_session.specs.Session.{answer_text};
 
-use crate::message::say;
-use cqc_model::Reply;
-use network_model::CoreReply;
-use qron_link::Link;
+use cqc_model::{Fault, Reply};
+use cqc_wire::write_reply;
+use network_model::{CoreReply, JournalFull};
 
 // The reply on the wire; None where the core is silent.
 fn wire_reply(reply: &CoreReply) -> Option<Reply>
@@ -32,16 +31,17 @@ pub fn refused(reply: &CoreReply) -> bool
     matches!(reply, CoreReply::Error(_))
 }
 
-/// Writes what the core replied, and says whether all of it was written.
-pub fn say_core<L: Link>(link: &mut L, app: u16, reply: &CoreReply) -> bool
-    ensures sent { (done : ℕ) × Sent result (L.held link.old) (L.held link.new) (spell_core app reply.now) done }
-    ensures cause { SentCause result (L.write_faults link.old) (L.write_faults link.new) }
-    ensures left { L.left link.new ≡ L.left link.old }
-    ensures read_faults { L.read_faults link.new ≡ L.read_faults link.old }
-    ensures led { L.was_led link.old link.new }
+/// Writes the bytes of an answer to the front of `out`, and gives their number. A full journal is answered GENERAL.
+pub fn write_answer(out: &mut [u8], app: u16, done: &Result<CoreReply, JournalFull>) -> usize
+    requires { reply_limit ≤ length out.old }
+    ensures fits { result ≤ length out.new }
+    ensures bytes { take result out.new ≡ answer_text app done.now }
 {
-    match wire_reply(reply) {
-        None => true,
-        Some(r) => say(link, app, &r),
+    match done {
+        Ok(reply) => match wire_reply(reply) {
+            None => 0,
+            Some(reply) => write_reply(out, app, &reply),
+        },
+        Err(_) => write_reply(out, app, &Reply::Error(Fault::General)),
     }
 }

@@ -2,16 +2,15 @@
 ghost use Rattle.std.specs.Prelude.{◌≡◌, ℕ, ◌≤◌, ◌<◌, ◌^◌, MatchOption, IfNone, IfOk};
 ghost use Rattle.cqc_session.specs.State.{State, work_of, begun, not_begun};
 
-use crate::message::say;
-use crate::next::{Next, next_command};
+use crate::allowance::Allowance;
+use crate::next::next_command;
 use crate::program::Program;
-use crate::reply::{refused, say_core};
+use crate::reply::{refused, write_answer};
 use crate::stage::Stage;
-use crate::take::{Taken, take_message};
+use crate::take::take_message;
 use crate::turn::Turn;
-use cqc_model::{Fault, Reply};
 use network_model::{Call, CoreReply, JournalFull};
-use qron_link::Link;
+use qron_link::{Link, send_link};
 use session_model::Ending;
 use std::alloc::{AllocError, Global};
 use std::marker::Model;
@@ -22,10 +21,9 @@ pub struct Session {
     seat: u16,
     serial: u16,
     node: u8,
-    cap: u64,
-    budget: u64,
-    app: u16,
-    busy: bool,
+    allowance: Allowance,
+    // The app of the message that is open.
+    opened: Option<u16>,
     program: Program,
     stage: Stage,
 }
@@ -35,9 +33,9 @@ impl Model for Session {
 
     ghost view = { λ s. record {
       connection = record { seat = s.seat; serial = s.serial; node = s.node };
-      cap = s.cap;
-      budget = s.budget;
-      work = work_of s.busy s.app s.program.left s.program.notify;
+      cap = s.allowance.cap;
+      budget = s.allowance.left;
+      work = work_of s.opened s.program.left s.program.notify;
       stage = s.stage;
     } };
 }
@@ -46,6 +44,7 @@ impl Session {
     ghost use Rattle.cqc_session.specs.declared.stage.Stage.TheVariants.{Ready};
     ghost use Rattle.cqc_session.specs.State.{Waits, steps_left, stage_after, stage_after_answer};
     ghost use Rattle.cqc_session.specs.Session.{PollDid, TurnCause, StepsKept, GoesOn, AnswerEnds, AnswerCause};
+    ghost use Rattle.cqc_session.specs.Parts.{moment, AdvanceDid, StepDid, ResultCause};
 
     /// A session of a seat at a node, which reads at most so many bytes of a connection. All its room is taken here.
     /// It answers nothing until it begins a connection.
@@ -59,10 +58,8 @@ impl Session {
             seat,
             serial: 0,
             node,
-            cap,
-            budget: cap,
-            app: 0,
-            busy: false,
+            allowance: Allowance::new(cap),
+            opened: None,
             program,
             stage: Stage::Closed,
         })
@@ -87,8 +84,8 @@ impl Session {
         ensures { self.new ≡ begun (record self.old.connection { serial = serial }) self.old.cap }
     {
         self.serial = serial;
-        self.budget = self.cap;
-        self.busy = false;
+        self.allowance = Allowance::new(self.allowance.cap);
+        self.opened = None;
         self.stage = Stage::Ready;
     }
 
@@ -103,37 +100,54 @@ impl Session {
         ensures cause { TurnCause result (L.read_faults link.old) (L.read_faults link.new) (L.write_faults link.old) (L.write_faults link.new) }
         ensures led { L.was_led link.old link.new }
     {
-        loop {
-            match next_command(link, &self.program, self.app, self.busy) {
-                Next::Ask(command) => {
-                    self.stage = Stage::Waiting;
-                    return Turn::Execute(Call {
-                        seat: self.seat,
-                        serial: self.serial,
-                        node: self.node,
-                        app: self.app,
-                        command,
-                    });
-                }
-                Next::Refused => {
-                    self.stage = Stage::Closed;
-                    return Turn::End(Ending::WriteFault);
-                }
-                Next::Ready => {}
+        match self.advance(link) {
+            Ok(call) => {
+                self.stage = Stage::Waiting;
+                Turn::Execute(call)
             }
-            self.busy = false;
-            match take_message(link, &mut self.program, &mut self.budget, self.cap) {
-                Taken::Answered => {}
-                Taken::Opened { app } => {
-                    self.app = app;
-                    self.busy = true;
-                }
-                Taken::Stopped(ending) => {
-                    self.stage = Stage::Closed;
-                    return Turn::End(ending);
-                }
+            Err(ending) => {
+                self.stage = Stage::Closed;
+                Turn::End(ending)
             }
         }
+    }
+
+    // Steps until a command is to be executed.
+    fn advance<L: Link>(&mut self, link: &mut L) -> Result<Call, Ending>
+        ensures did { AdvanceDid self.old self.new (moment L.left L.held link.old self.old.budget) (moment L.left L.held link.new self.new.budget) result }
+        ensures connection { self.new.connection ≡ self.old.connection }
+        ensures cap { self.new.cap ≡ self.old.cap }
+        ensures cause { ResultCause result (L.read_faults link.old) (L.read_faults link.new) (L.write_faults link.old) (L.write_faults link.new) }
+        ensures led { L.was_led link.old link.new }
+    {
+        loop {
+            match self.step(link) {
+                Ok(None) => {}
+                Ok(Some(call)) => return Ok(call),
+                Err(ending) => return Err(ending),
+            }
+        }
+    }
+
+    // Asks the next command of the message that is open, or takes the next message.
+    fn step<L: Link>(&mut self, link: &mut L) -> Result<Option<Call>, Ending>
+        ensures did { StepDid self.old self.new (moment L.left L.held link.old self.old.budget) (moment L.left L.held link.new self.new.budget) result }
+        ensures connection { self.new.connection ≡ self.old.connection }
+        ensures cap { self.new.cap ≡ self.old.cap }
+        ensures cause { ResultCause result (L.read_faults link.old) (L.read_faults link.new) (L.write_faults link.old) (L.write_faults link.new) }
+        ensures led { L.was_led link.old link.new }
+    {
+        if let Some((app, command)) = next_command(link, &self.program, self.opened)? {
+            return Ok(Some(Call {
+                seat: self.seat,
+                serial: self.serial,
+                node: self.node,
+                app,
+                command,
+            }));
+        }
+        self.opened = take_message(link, &mut self.program, &mut self.allowance)?;
+        Ok(None)
     }
 
     /// Hands in what the core answered. None: its reply is written, and the session goes on.
@@ -158,24 +172,24 @@ impl Session {
             (λ ending. AnswerCause ending (L.write_faults link.old) (L.write_faults link.new)) }
         ensures led { L.was_led link.old link.new }
     {
+        let Some(app) = self.opened else {
+            unreachable!()
+        };
         self.stage = Stage::Closed;
+        let mut out = [0u8; 50];
+        let size = write_answer(&mut out, app, &done);
+        if send_link(link, &out[..size]).is_err() {
+            return Some(Ending::WriteFault);
+        }
         match done {
             Ok(reply) => {
-                if !say_core(link, self.app, &reply) {
-                    return Some(Ending::WriteFault);
-                }
                 self.program.after(!refused(&reply));
                 self.stage = Stage::Ready;
                 None
             }
-            Err(full) => {
-                if say(link, self.app, &Reply::Error(Fault::General)) {
-                    return Some(Ending::Full {
-                        entries: full.entries,
-                    });
-                }
-                Some(Ending::WriteFault)
-            }
+            Err(full) => Some(Ending::Full {
+                entries: full.entries,
+            }),
         }
     }
 }

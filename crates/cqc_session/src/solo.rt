@@ -25,8 +25,15 @@ fn execute<D: Dice>(solo: &mut Solo, call: &Call, dice: &mut D) -> Result<CoreRe
     ensures seat { D.begun_seat dice.new ≡ D.begun_seat dice.old }
     ensures serial { D.begun_serial dice.new ≡ D.begun_serial dice.old }
 {
-    let _entries = solo.entries();
+    solo_limits(solo);
     solo.execute(call, dice)
+}
+
+// What the type of a core says of its entries.
+fn solo_limits(solo: &Solo)
+    ensures { length solo.now.entries ≤ 1048576 }
+{
+    let _entries = solo.entries();
 }
 
 /// Begins the dice and serves a connection that has begun to its end. RECV and EPR_RECV that find no qubit are
@@ -50,6 +57,7 @@ pub fn serve_solo<L: Link, D: Dice>(
     ensures journal { solo.new ≡ record solo.old { entries = solo.new.entries } }
     ensures key { D.key dice.new ≡ D.key dice.old }
     ensures cause { EndCause result (L.read_faults link.old) (L.read_faults link.new) (L.write_faults link.old) (L.write_faults link.new) }
+    ensures led { L.was_led link.old link.new }
     ensures closed { session.new.stage ≡ Closed }
     ensures connection { session.new.connection ≡ session.old.connection }
     ensures cap { session.new.cap ≡ session.old.cap }

@@ -87,27 +87,7 @@ size_is c = omega (arith, extra_is c.instr)
   where
     extra_is : (i : Instr) → length (spell_extra i) + 4 ≡ command_size (instr_number i)
     extra_is instr.I = refl
-    extra_is instr.New = refl
-    extra_is instr.Measure = refl
-    extra_is instr.MeasureInplace = refl
-    extra_is instr.Reset = refl
-    extra_is (instr.Send r) = refl
-    extra_is instr.Recv = refl
-    extra_is (instr.Epr r) = refl
-    extra_is instr.EprRecv = refl
-    extra_is instr.X = refl
-    extra_is instr.Z = refl
-    extra_is instr.Y = refl
-    extra_is instr.T = refl
-    extra_is (instr.RotX step) = refl
-    extra_is (instr.RotY step) = refl
-    extra_is (instr.RotZ step) = refl
-    extra_is instr.H = refl
-    extra_is instr.K = refl
-    extra_is (instr.Cnot target) = refl
-    extra_is (instr.Cphase other) = refl
-    extra_is instr.Allocate = refl
-    extra_is instr.Release = refl
+    extra_is _ = refl
 
 -- the size of the commands in front of a place, and of one more
 pub record Sized (list : List Command) (i size : ℕ) : Type 0 where

@@ -91,8 +91,8 @@ pub fn write_reply(out: &mut [u8], app: u16, reply: &Reply) -> usize
     put_body(out, at, reply)
 }
 
-// The length of the body that a reply of a type has; None for the type of no reply.
-fn size_of_kind(kind: u8) -> Option<usize>
+/// The length of the body that a reply of a type has; None for the type of no reply.
+pub fn size_of_kind(kind: u8) -> Option<usize>
     ensures { result ≡ reply_size kind }
 {
     match kind {

@@ -17,6 +17,48 @@ fn reply_in_room(app: u16, reply: Reply) -> Room {
     Room { out, size }
 }
 
+// The first pair between app 1 at port 8821 and app 2 at port 8822 of 127.0.0.1.
+const PAIR: PairInfo = PairInfo {
+    node_a: 0x7F00_0001,
+    port_a: 0x2275,
+    app_a: 1,
+    node_b: 0x7F00_0001,
+    port_b: 0x2276,
+    app_b: 2,
+    pair: 0,
+};
+
+// A command without options.
+fn plain(qubit: u16, instr: Instr) -> Command {
+    Command {
+        qubit,
+        instr,
+        notify: false,
+        block: false,
+    }
+}
+
+// A command that asks for DONE.
+fn notifying(qubit: u16, instr: Instr) -> Command {
+    Command {
+        notify: true,
+        ..plain(qubit, instr)
+    }
+}
+
+// A command with BLOCK.
+fn blocking(qubit: u16, instr: Instr) -> Command {
+    Command {
+        block: true,
+        ..plain(qubit, instr)
+    }
+}
+
+// A command, and where the next one begins.
+fn step(command: Command, next: u32) -> Step {
+    Step { command, next }
+}
+
 #[test]
 fn hello_has_eight_bytes(rt: HostRuntime) {
     let head = read_header(&[2, 0, 0, 7, 0, 0, 1, 2]);
@@ -33,32 +75,23 @@ fn hello_has_eight_bytes(rt: HostRuntime) {
 
 #[test]
 fn replies_have_their_bytes(rt: HostRuntime) {
-    let new = reply_in_room(0, Reply::New(0));
-    assert!(rt; new.out[..10] == [0x02, 0x0A, 0, 0, 0, 0, 0, 2, 0, 0]);
-    assert_eq!(rt; new.size, 10);
-    assert_eq!(rt; new.out[10], BEFORE);
-    let hello = reply_in_room(7, Reply::Hello);
-    assert!(rt; hello.out[..8] == [0x02, 0, 0, 7, 0, 0, 0, 0]);
-    let done = reply_in_room(0, Reply::Done);
-    assert!(rt; done.out[..8] == [0x02, 0x04, 0, 0, 0, 0, 0, 0]);
-    let received = reply_in_room(0, Reply::Received(258));
-    assert!(rt; received.out[..10] == [0x02, 0x05, 0, 0, 0, 0, 0, 2, 1, 2]);
-    let outcome = reply_in_room(0, Reply::Outcome(true));
-    assert!(rt; outcome.out[..9] == [0x02, 0x07, 0, 0, 0, 0, 0, 1, 1]);
+    let cases: [(Reply, &[u8]); 5] = [
+        (Reply::New(0), &[0x02, 0x0A, 0, 7, 0, 0, 0, 2, 0, 0]),
+        (Reply::Hello, &[0x02, 0, 0, 7, 0, 0, 0, 0]),
+        (Reply::Done, &[0x02, 0x04, 0, 7, 0, 0, 0, 0]),
+        (Reply::Received(258), &[0x02, 0x05, 0, 7, 0, 0, 0, 2, 1, 2]),
+        (Reply::Outcome(true), &[0x02, 0x07, 0, 7, 0, 0, 0, 1, 1]),
+    ];
+    for (reply, bytes) in cases {
+        let room = reply_in_room(7, reply);
+        assert_eq!(rt; room.out.get(..room.size), Some(bytes));
+        assert_eq!(rt; room.out.get(room.size), Some(&BEFORE));
+    }
 }
 
 #[test]
 fn pairs_have_their_bytes(rt: HostRuntime) {
-    let info = PairInfo {
-        node_a: 0x7F00_0001,
-        port_a: 0x2275,
-        app_a: 1,
-        node_b: 0x7F00_0001,
-        port_b: 0x2276,
-        app_b: 2,
-        pair: 0,
-    };
-    let pair = reply_in_room(1, Reply::Pair(1, info));
+    let pair = reply_in_room(1, Reply::Pair(1, PAIR));
     assert_eq!(rt; pair.size, 50);
     assert!(rt; pair.out[..10] == [0x02, 0x06, 0, 1, 0, 0, 0, 0x2A, 0, 1]);
     assert!(rt; pair.out[10..22] == [0x7F, 0, 0, 1, 0x22, 0x75, 0, 1, 0x7F, 0, 0, 1]);
@@ -110,38 +143,42 @@ fn errors_have_their_types(rt: HostRuntime) {
     }
 }
 
+// The first fault of a list, if it has one.
+fn first_fault(list: &[u8]) -> Option<BodyFault> {
+    if list.len() > 65_536 {
+        return None;
+    }
+    check_body(list).err()
+}
+
 #[test]
 fn first_faults_are_told(rt: HostRuntime) {
     let action = [0, 0, 1, 2];
-    assert_eq!(rt; check_body(&action), Err(BodyFault::Unsupported { at: 0 }));
     let if_then = [0, 0, 1, 8];
-    assert_eq!(rt; check_body(&if_then), Err(BodyFault::Unsupported { at: 0 }));
     let cut_command = [0, 0, 1, 0, 0, 0, 17];
-    assert_eq!(rt; check_body(&cut_command), Err(BodyFault::Short { at: 4 }));
     let unknown = [0, 0, 1, 0, 0, 0, 99, 0, 0];
-    assert_eq!(rt; check_body(&unknown), Err(BodyFault::Unsupported { at: 4 }));
-    let cut_send = [0, 0, 1, 0, 0, 0, 5, 0, 0, 2, 0x22, 0x76, 0x7F, 0, 0];
-    assert_eq!(rt; check_body(&cut_send), Err(BodyFault::Short { at: 4 }));
+    let cases: [(&[u8], BodyFault); 4] = [
+        (&action, BodyFault::Unsupported { at: 0 }),
+        (&if_then, BodyFault::Unsupported { at: 0 }),
+        (&cut_command, BodyFault::Short { at: 4 }),
+        (&unknown, BodyFault::Unsupported { at: 4 }),
+    ];
+    for (list, fault) in cases {
+        assert_eq!(rt; first_fault(list), Some(fault));
+    }
 }
 
 #[test]
 fn extra_headers_must_be_whole(rt: HostRuntime) {
-    assert_eq!(rt;
-        check_body(&[0, 0, 1, 0, 0, 0, 20, 0, 1]),
-        Err(BodyFault::Short { at: 4 })
-    );
-    assert_eq!(rt;
-        check_body(&[0, 0, 1, 0, 0, 0, 21, 0, 1]),
-        Err(BodyFault::Short { at: 4 })
-    );
-    assert_eq!(rt;
-        check_body(&[0, 0, 1, 0, 0, 0, 7, 0, 0, 2, 0x22, 0x76, 0x7F, 0, 0]),
-        Err(BodyFault::Short { at: 4 })
-    );
-    assert_eq!(rt;
-        check_body(&[0, 0, 6, 0, 0, 0, 8]),
-        Err(BodyFault::Short { at: 4 })
-    );
+    let send = [0, 0, 1, 0, 0, 0, 5, 0, 0, 2, 0x22, 0x76, 0x7F, 0, 0];
+    let epr = [0, 0, 1, 0, 0, 0, 7, 0, 0, 2, 0x22, 0x76, 0x7F, 0, 0];
+    let cnot = [0, 0, 1, 0, 0, 0, 20, 0, 1];
+    let cphase = [0, 0, 1, 0, 0, 0, 21, 0, 1];
+    let receipt = [0, 0, 6, 0, 0, 0, 8];
+    let lists: [&[u8]; 5] = [&send, &epr, &cnot, &cphase, &receipt];
+    for list in lists {
+        assert_eq!(rt; first_fault(list), Some(BodyFault::Short { at: 4 }));
+    }
 }
 
 #[test]
@@ -176,51 +213,21 @@ fn lists_without_faults_are_counted(rt: HostRuntime) {
 #[tactic(auto, unfolding(cqc_model::specs::Plan::commands))]
 fn commands_are_read_where_they_begin(rt: HostRuntime) {
     let new_and_block = Command {
-        qubit: 258,
-        instr: Instr::New,
-        notify: true,
         block: true,
+        ..notifying(258, Instr::New)
     };
     let list = [1, 2, 1, 5];
-    assert_eq!(rt;
-        command_at(&list, 0),
-        Step {
-            command: new_and_block,
-            next: 4
-        }
-    );
+    assert_eq!(rt; command_at(&list, 0), step(new_and_block, 4));
 }
 
 #[test]
 #[tactic(auto, unfolding(cqc_model::specs::Plan::commands))]
 fn gates_on_two_qubits_name_the_other(rt: HostRuntime) {
-    let cnot = Command {
-        qubit: 1,
-        instr: Instr::Cnot(258),
-        notify: true,
-        block: false,
-    };
-    let cphase = Command {
-        qubit: 3,
-        instr: Instr::Cphase(513),
-        notify: false,
-        block: true,
-    };
+    let cnot = notifying(1, Instr::Cnot(258));
+    let cphase = blocking(3, Instr::Cphase(513));
     let list = [0, 1, 20, 1, 1, 2, 0, 3, 21, 4, 2, 1];
-    assert_eq!(rt;
-        command_at(&list, 0),
-        Step {
-            command: cnot,
-            next: 6
-        }
-    );
-    assert_eq!(rt;
-        command_at(&list, 6),
-        Step {
-            command: cphase,
-            next: 12
-        }
-    );
+    assert_eq!(rt; command_at(&list, 0), step(cnot, 6));
+    assert_eq!(rt; command_at(&list, 6), step(cphase, 12));
 }
 
 // Application 2 at port 8822 of 127.0.0.1.
@@ -233,83 +240,34 @@ const REMOTE: Remote = Remote {
 #[test]
 #[tactic(auto, unfolding(cqc_model::specs::Plan::commands))]
 fn send_and_epr_name_the_remote_application(rt: HostRuntime) {
-    let send = Command {
-        qubit: 7,
-        instr: Instr::Send(REMOTE),
-        notify: false,
-        block: false,
-    };
-    let epr = Command {
-        qubit: 7,
-        instr: Instr::Epr(REMOTE),
-        notify: false,
-        block: false,
-    };
+    let send = plain(7, Instr::Send(REMOTE));
+    let epr = plain(7, Instr::Epr(REMOTE));
     assert_eq!(rt;
         command_at(&[0, 7, 5, 0, 0, 2, 0x22, 0x76, 0x7F, 0, 0, 1], 0),
-        Step {
-            command: send,
-            next: 12
-        }
+        step(send, 12)
     );
     assert_eq!(rt;
         command_at(&[0, 7, 7, 0, 0, 2, 0x22, 0x76, 0x7F, 0, 0, 1], 0),
-        Step {
-            command: epr,
-            next: 12
-        }
+        step(epr, 12)
     );
 }
 
 #[test]
 #[tactic(auto, unfolding(cqc_model::specs::Plan::commands))]
 fn recv_and_epr_recv_have_four_bytes(rt: HostRuntime) {
-    let recv = Command {
-        qubit: 0,
-        instr: Instr::Recv,
-        notify: false,
-        block: false,
-    };
-    let epr_recv = Command {
-        qubit: 0,
-        instr: Instr::EprRecv,
-        notify: true,
-        block: false,
-    };
+    let recv = plain(0, Instr::Recv);
+    let epr_recv = notifying(0, Instr::EprRecv);
     let list = [0, 0, 6, 0, 0, 0, 8, 1];
-    assert_eq!(rt;
-        command_at(&list, 0),
-        Step {
-            command: recv,
-            next: 4
-        }
-    );
-    assert_eq!(rt;
-        command_at(&list, 4),
-        Step {
-            command: epr_recv,
-            next: 8
-        }
-    );
+    assert_eq!(rt; command_at(&list, 0), step(recv, 4));
+    assert_eq!(rt; command_at(&list, 4), step(epr_recv, 8));
 }
 
 #[test]
 #[tactic(auto, unfolding(cqc_model::specs::Plan::commands))]
 fn allocate_tells_its_count(rt: HostRuntime) {
-    let allocate = Command {
-        qubit: 3,
-        instr: Instr::Allocate,
-        notify: true,
-        block: false,
-    };
+    let allocate = notifying(3, Instr::Allocate);
     assert_eq!(rt; check_body(&[0, 3, 22, 1]), Ok(1));
-    assert_eq!(rt;
-        command_at(&[0, 3, 22, 1], 0),
-        Step {
-            command: allocate,
-            next: 4
-        }
-    );
+    assert_eq!(rt; command_at(&[0, 3, 22, 1], 0), step(allocate, 4));
 }
 
 // The header of a reply to application 7.
@@ -344,15 +302,7 @@ fn replies_are_read(rt: HostRuntime) {
 
 #[test]
 fn a_pair_is_read_where_its_last_bytes_are_0(rt: HostRuntime) {
-    let info = PairInfo {
-        node_a: 0x7F00_0001,
-        port_a: 0x2275,
-        app_a: 1,
-        node_b: 0x7F00_0001,
-        port_b: 0x2276,
-        app_b: 2,
-        pair: 9,
-    };
+    let info = PairInfo { pair: 9, ..PAIR };
     let mut room = reply_in_room(7, Reply::Pair(3, info));
     let head = reply_head(6, 42);
     assert_eq!(rt;
@@ -377,27 +327,13 @@ fn what_is_no_reply_is_not_read(rt: HostRuntime) {
     assert_eq!(rt; read_reply(&reply_head(10, 3), &[1, 2, 3]), None);
 }
 
-// A command without operand that asks for DONE.
-fn notifying(qubit: u16, instr: Instr) -> Command {
-    Command {
-        qubit,
-        instr,
-        notify: true,
-        block: false,
-    }
-}
-
 #[test]
 fn messages_have_their_bytes(rt: HostRuntime) {
     let mut out = [BEFORE; 24];
     let hello = write_message(&mut out, &Head::Hello { app: 7 }, &[]);
     assert_eq!(rt; hello, Ok(8));
     assert!(rt; out[..9] == [2, 0, 0, 7, 0, 0, 0, 0, BEFORE]);
-    let x = Command {
-        notify: false,
-        block: true,
-        ..notifying(258, Instr::X)
-    };
+    let x = blocking(258, Instr::X);
     let cnot = notifying(1, Instr::Cnot(3));
     let commands = write_message(&mut out, &Head::Commands { app: 1 }, &[x, cnot]);
     assert_eq!(rt; commands, Ok(18));

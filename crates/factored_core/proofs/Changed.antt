@@ -14,7 +14,7 @@ use Rattle.virtual_node.specs.Node.{Node, held_map, arrived_map}
 use Rattle.cell_laws.specs.Standing.{IsStanding}
 use Rattle.core_cells.specs.Pool.{Pool}
 use Rattle.core_cells.specs.Cells.{Cells, CellsFit, put_node, put_pool, put_slot, settled, settled_node, settled_pool, settled_slot, forgotten, forgotten_node, forgotten_pool, forgotten_slot, IsUnprepared, register_of}
-use Rattle.core_cells.specs.declared.cells.NodePair.{NodePair}
+use Rattle.core_cells.specs.Nodes.{NodeValues}
 use Rattle.core_cells.specs.declared.cells.PoolPair.{PoolPair}
 use Rattle.core_cells.specs.declared.cells.SlotCell.{SlotCell}
 use Rattle.core_cells.proofs.CellLemmas.{cells_by}
@@ -33,7 +33,7 @@ there f None b e = absurd (no_some b e)
 there f (Some a) b e = (a, (refl, ap (λ o. unwrap_or o b) e))
 
 -- ---- nothing is prepared
-node_start : (o : Option NodePair) → ((w : NodePair) → o ≡ Some w → w.next ≡ None) → o ≡ option_map (with_next_node None) o
+node_start : (o : Option NodeValues) → ((w : NodeValues) → o ≡ Some w → w.next ≡ None) → o ≡ option_map (with_next_node None) o
 node_start None free = refl
 node_start (Some w) free = ap (λ n. Some (record w { next = n })) (free w refl)
 
@@ -50,7 +50,7 @@ unfolding changed
 changed-none cs free = cells_by cs (changed cs no_changes) (λ m. node_start (cs.node m) (free.node m)) (pool_start cs.pool free.pool) (λ t. slot_start (cs.slot t) (free.slot t))
 
 -- ---- one more next value
-pub changed-node : (cs : Cells) (ch : Changes) (k : ℕ) (n : Node) (w : NodePair) → (changed cs ch).node k ≡ Some w
+pub changed-node : (cs : Cells) (ch : Changes) (k : ℕ) (n : Node) (w : NodeValues) → (changed cs ch).node k ≡ Some w
     → put_node (changed cs ch) k (record w { next = Some n }) ≡ changed cs (record ch { nodes = (k, n) ∷ ch.nodes })
 unfolding changed put_node
 changed-node cs ch k n w is = cells_by (put_node (changed cs ch) k (record w { next = Some n })) (changed cs (record ch { nodes = (k, n) ∷ ch.nodes })) (λ m. by m (m == k) refl) refl (λ t. refl)
@@ -96,7 +96,7 @@ changed-slot cs ch k a w v is made = cells_by (put_slot (changed cs ch) k v) (ch
         ∙ ap (λ b. option_map (with_next_slot (cond b (Some a) (change_at ch.slots t))) (cs.slot t)) (sym e)
 
 -- ---- a cell that is there is there with its next value
-pub changed-node_at : (cs : Cells) (ch : Changes) (k : ℕ) (w : NodePair) → cs.node k ≡ Some w → (changed cs ch).node k ≡ Some (with_next_node (change_at ch.nodes k) w)
+pub changed-node_at : (cs : Cells) (ch : Changes) (k : ℕ) (w : NodeValues) → cs.node k ≡ Some w → (changed cs ch).node k ≡ Some (with_next_node (change_at ch.nodes k) w)
 unfolding changed
 changed-node_at cs ch k w is = ap (option_map (with_next_node (change_at ch.nodes k))) is
 
@@ -104,32 +104,24 @@ pub changed-slot_at : (cs : Cells) (ch : Changes) (k : ℕ) (w : SlotCell) → c
 unfolding changed
 changed-slot_at cs ch k w is = ap (option_map (with_next_slot (change_at ch.slots k))) is
 
+still_some : {A B : Type 0} (f : A → B) (o : Option A) → IsSome o → IsSome (option_map f o)
+still_some f None h = h
+still_some f (Some w) h = h
+
 pub some_node : (cs : Cells) (ch : Changes) (k : ℕ) → IsSome (cs.node k) → IsSome ((changed cs ch).node k)
 unfolding changed
-some_node cs ch k has = by (cs.node k) has
-  where
-    by : (o : Option NodePair) → IsSome o → IsSome (option_map (with_next_node (change_at ch.nodes k)) o)
-    by None h = h
-    by (Some w) h = h
+some_node cs ch k = still_some (with_next_node (change_at ch.nodes k)) (cs.node k)
 
 pub some_pool : (cs : Cells) (ch : Changes) → IsSome cs.pool → IsSome (changed cs ch).pool
 unfolding changed
-some_pool cs ch has = by cs.pool has
-  where
-    by : (o : Option PoolPair) → IsSome o → IsSome (option_map (with_next_pool ch.pool) o)
-    by None h = h
-    by (Some w) h = h
+some_pool cs ch = still_some (with_next_pool ch.pool) cs.pool
 
 pub some_slot : (cs : Cells) (ch : Changes) (k : ℕ) → IsSome (cs.slot k) → IsSome ((changed cs ch).slot k)
 unfolding changed
-some_slot cs ch k has = by (cs.slot k) has
-  where
-    by : (o : Option SlotCell) → IsSome o → IsSome (option_map (with_next_slot (change_at ch.slots k)) o)
-    by None h = h
-    by (Some w) h = h
+some_slot cs ch k = still_some (with_next_slot (change_at ch.slots k)) (cs.slot k)
 
 -- ---- all is forgotten
-node_gone : (n : Option Node) (o : Option NodePair) → ((w : NodePair) → o ≡ Some w → w.next ≡ None) → option_map forgotten_node (option_map (with_next_node n) o) ≡ o
+node_gone : (n : Option Node) (o : Option NodeValues) → ((w : NodeValues) → o ≡ Some w → w.next ≡ None) → option_map forgotten_node (option_map (with_next_node n) o) ≡ o
 node_gone n None free = refl
 node_gone n (Some w) free = ap (λ n. Some (record w { next = n })) (sym (free w refl))
 
@@ -147,7 +139,7 @@ forgotten-changed cs ch free = cells_by (forgotten (changed cs ch)) cs (λ m. no
 
 -- ---- all is settled
 module _ (shape : Shape) (s : Network) (home : ℕ → ℕ) (e : Entry) (cs : Cells) (ch : Changes) (standing : IsStanding shape s home) (fit : CellsFit shape s home cs) (legal : IsLegalEntry shape s e) (fits : ChangesFit shape s home e ch) where
-  node_fits : (m : ℕ) (w : NodePair) → cs.node m ≡ Some w → (o : Option Node) → change_at ch.nodes m ≡ o → FitsNode (advance shape s e) m (held_map (unwrap_or o w.now)) (arrived_map (unwrap_or o w.now))
+  node_fits : (m : ℕ) (w : NodeValues) → cs.node m ≡ Some w → (o : Option Node) → change_at ch.nodes m ≡ o → FitsNode (advance shape s e) m (held_map (unwrap_or o w.now)) (arrived_map (unwrap_or o w.now))
   node_fits m w is None e' = untouched_nodes_fit shape s e m (held_map w.now) (arrived_map w.now) standing.sound legal (fit.nodes m w is) (fits.nodes_touched m ∙ ap is_some e')
   node_fits m w is (Some n) e' = fits.nodes m n e'
 
@@ -165,7 +157,7 @@ module _ (shape : Shape) (s : Network) (home : ℕ → ℕ) (e : Entry) (cs : Ce
     nodes = λ m v is.
         let x = there settled_node (option_map (with_next_node (change_at ch.nodes m)) (cs.node m)) v is in
         let y = there (with_next_node (change_at ch.nodes m)) (cs.node m) (x.0) (x.1.0) in
-        subst (λ u. FitsNode (advance shape s e) m (held_map (NodePair.now u)) (arrived_map (NodePair.now u))) (ap settled_node (y.1.1) ∙ x.1.1) (node_fits m (y.0) (y.1.0) (change_at ch.nodes m) refl);
+        subst (λ u. FitsNode (advance shape s e) m (held_map (NodeValues.now u)) (arrived_map (NodeValues.now u))) (ap settled_node (y.1.1) ∙ x.1.1) (node_fits m (y.0) (y.1.0) (change_at ch.nodes m) refl);
     pool = λ v is.
         let x = there settled_pool (option_map (with_next_pool ch.pool) cs.pool) v is in
         let y = there (with_next_pool ch.pool) cs.pool (x.0) (x.1.0) in
@@ -210,7 +202,7 @@ there_is None h = absurd (clash (sym h))
 there_is (Some a) h = (a, refl)
 
 pub node_prepared : (cs mid new : Cells) (ch : Changes) (k : ℕ) (n : Node) → mid ≡ changed cs ch → IsSome (cs.node k)
-    → ((w : NodePair) → mid.node k ≡ Some w → new ≡ put_node mid k (record w { next = Some n })) → new ≡ changed cs (record ch { nodes = (k, n) ∷ ch.nodes })
+    → ((w : NodeValues) → mid.node k ≡ Some w → new ≡ put_node mid k (record w { next = Some n })) → new ≡ changed cs (record ch { nodes = (k, n) ∷ ch.nodes })
 node_prepared cs mid new ch k n e has put =
     let w = there_is ((changed cs ch).node k) (some_node cs ch k has) in
     put (w.0) (ap (λ (c : Cells). c.node k) e ∙ w.1) ∙ ap (λ (c : Cells). put_node c k (record (w.0) { next = Some n })) e ∙ changed-node cs ch k n (w.0) (w.1)

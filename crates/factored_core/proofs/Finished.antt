@@ -10,7 +10,7 @@ use Rattle.virtual_node.specs.Node.{Node}
 use Rattle.core_cells.specs.Pool.{Pool}
 use Rattle.core_cells.specs.Cells.{Cells, settled, forgotten}
 use Rattle.core_cells.specs.Names.{names_node, names_pool, names_slot, AreThere, done_by, on_named}
-use Rattle.core_cells.specs.declared.cells.NodePair.{NodePair}
+use Rattle.core_cells.specs.Nodes.{NodeValues}
 use Rattle.core_cells.specs.declared.cells.PoolPair.{PoolPair}
 use Rattle.core_cells.specs.declared.cells.SlotCell.{SlotCell}
 use Rattle.core_cells.specs.declared.names.Ending.{Ending}
@@ -36,7 +36,7 @@ empty_of true next h e = absurd (clash e)
 empty_of false next h e = h
 
 -- a cell without a next value stays
-node_stays : (e : Ending) (w : NodePair) → w.next ≡ None → (done_by e).node w ≡ w
+node_stays : (e : Ending) (w : NodeValues) → w.next ≡ None → (done_by e).node w ≡ w
 node_stays Settle w e = ap (λ (o : Option Node). record { now = unwrap_or o w.now; next = None }) e ∙ ap (λ (o : Option Node). record { now = w.now; next = o }) (sym e)
 node_stays Forget w e = ap (λ (o : Option Node). record { now = w.now; next = o }) (sym e)
 
@@ -85,7 +85,7 @@ left_by cs new ch p e named there_all = subst (λ (c : Cells). IsLeftBy c p) (sy
     pool = λ is. some_pool cs ch (there_all.pool is);
     slot = λ t is. some_slot cs ch t (there_all.slot t is);
   };
-  node = λ m w is. let x = there (with_next_node (change_at ch.nodes m)) (cs.node m) w is in ap (λ (v : NodePair). is_some v.next) (sym (x.1.1)) ∙ sym (named.nodes m);
+  node = λ m w is. let x = there (with_next_node (change_at ch.nodes m)) (cs.node m) w is in ap (λ (v : NodeValues). is_some v.next) (sym (x.1.1)) ∙ sym (named.nodes m);
   pool = λ w is. let x = there (with_next_pool ch.pool) cs.pool w is in ap (λ (v : PoolPair). is_some v.next) (sym (x.1.1)) ∙ sym named.pool;
   slot = λ t w is. let x = there (with_next_slot (change_at ch.slots t)) (cs.slot t) w is in
       subst (λ (v : SlotCell). IsNextWhere (names_slot p.touched t) v.register.next) (x.1.1) (next_where (change_at ch.slots t) (names_slot p.touched t) (named.slots t));

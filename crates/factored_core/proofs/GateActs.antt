@@ -19,7 +19,7 @@ use Rattle.network_model.specs.declared.CoreReply.TheVariants as reply
 use Rattle.qubit_handles.specs.Handle.{number_of}
 use Rattle.virtual_node.specs.Node.{Node}
 use Rattle.core_cells.specs.Cells.{Cells, put_node}
-use Rattle.core_cells.specs.declared.cells.NodePair.{NodePair}
+use Rattle.core_cells.specs.Nodes.{NodeValues}
 use Rattle.factored_core.specs.Changes.{no_changes, changed, AreNamed, IsPreparedStep, with_next_slot}
 use Rattle.factored_core.specs.Ready.{IsReady}
 use Rattle.factored_core.specs.Replies.{gate_reply, in_one_slot}
@@ -40,7 +40,7 @@ named_in_slot c own word r t a = record {
 }
 
 -- what is prepared, after the own node's value was prepared besides
-module _ (shape : Shape) (c : Call) (cs : Cells) (own : Node) (ready : IsReady shape c cs own) (mid new : Cells) (put : (w : NodePair) → mid.node c.node ≡ Some w → new ≡ put_node mid c.node (record w { next = Some own })) where
+module _ (shape : Shape) (c : Call) (cs : Cells) (own : Node) (ready : IsReady shape c cs own) (mid new : Cells) (put : (w : NodeValues) → mid.node c.node ≡ Some w → new ≡ put_node mid c.node (record w { next = Some own })) where
   pub own_there : IsSome (cs.node c.node)
   own_there = let h = ready.has in some_there (cs.node c.node) h.own h.own_there
 

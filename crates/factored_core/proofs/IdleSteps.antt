@@ -14,7 +14,7 @@ use Rattle.qubit_handles.specs.Handle.{number_of}
 use Rattle.virtual_node.specs.Node.{Node, held_map, arrived_map}
 use Rattle.cell_laws.specs.Standing.{IsStanding}
 use Rattle.core_cells.specs.Cells.{Cells, CellsFit, put_node}
-use Rattle.core_cells.specs.declared.cells.NodePair.{NodePair}
+use Rattle.core_cells.specs.Nodes.{NodeValues}
 use Rattle.factored_core.specs.Changes.{no_changes, IsStepBy, ChangesFit, IsPreparedStep, register_with}
 use Rattle.factored_core.specs.Ready.{IsReady}
 use Rattle.factored_core.specs.Replies.{in_one_slot}
@@ -83,7 +83,7 @@ module _ (shape : Shape) (c : Call) (cs : Cells) (own : Node) (ready : IsReady s
     kept s home standing fit a same,
   )
 
-  pub idle_prepared : (before mid new : Cells) → before ≡ cs → HasPrepared before mid spot.slot IsSame → ((w : NodePair) → mid.node c.node ≡ Some w → new ≡ put_node mid c.node (record w { next = Some own }))
+  pub idle_prepared : (before mid new : Cells) → before ≡ cs → HasPrepared before mid spot.slot IsSame → ((w : NodeValues) → mid.node c.node ≡ Some w → new ≡ put_node mid c.node (record w { next = Some own }))
       → IsPreparedStep shape cs new (in_one_slot c None reply.Silent spot.slot)
   idle_prepared before mid new e h put =
       let k = h cs no_changes (e ∙ changed-none cs ready.unprepared) at.cell at.there in record {

@@ -21,7 +21,7 @@ use Rattle.cell_laws.proofs.MeasuredSlots.{basis_list}
 use Rattle.cell_laws.proofs.StepSlots.{new_step}
 use Rattle.core_cells.specs.Pool.{Pool}
 use Rattle.core_cells.specs.Cells.{Cells, CellsFit, put_node, put_pool}
-use Rattle.core_cells.specs.declared.cells.NodePair.{NodePair}
+use Rattle.core_cells.specs.Nodes.{NodeValues}
 use Rattle.core_cells.specs.declared.cells.PoolPair.{PoolPair}
 use Rattle.factored_core.specs.Changes.{Changes, no_changes, changed, AreNamed, IsStepBy, ChangesFit, IsPreparedStep, register_with}
 use Rattle.factored_core.specs.Needs.{takes_slot}
@@ -138,7 +138,7 @@ module _ (shape : Shape) (c : Call) (cs : Cells) (own : Node) (ready : IsReady s
     pub new_leaves_node : IsSome (one.node c.node)
     new_leaves_node = node_still cs one (record no_changes { pool = Some after }) c.node pooled (own_there shape c cs own ready)
 
-    module _ (two : Cells) (next : Node) (next_is : next ≡ given) (put_two : (w : NodePair) → one.node c.node ≡ Some w → two ≡ put_node one c.node (record w { next = Some next })) where
+    module _ (two : Cells) (next : Node) (next_is : next ≡ given) (put_two : (w : NodeValues) → one.node c.node ≡ Some w → two ≡ put_node one c.node (record w { next = Some next })) where
       abbrev half : Changes
       half = record { nodes = (c.node, given) ∷ []; pool = Some after; slots = [] }
 

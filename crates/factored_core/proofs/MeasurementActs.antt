@@ -20,7 +20,7 @@ use Rattle.core_cells.specs.Marks.{IsLeastListed}
 use Rattle.core_cells.specs.Pool.{Pool, IsSlotTaken}
 use Rattle.core_cells.specs.Cells.{Cells, put_node, put_pool}
 use Rattle.core_cells.specs.declared.names.CellName.TheVariants as cell
-use Rattle.core_cells.specs.declared.cells.NodePair.{NodePair}
+use Rattle.core_cells.specs.Nodes.{NodeValues}
 use Rattle.core_cells.specs.declared.cells.PoolPair.{PoolPair}
 use Rattle.core_cells.specs.declared.cells.SlotCell.{SlotCell}
 use Rattle.factored_core.specs.Changes.{Changes, no_changes, changed, change_at, with_next_slot, ChangesFit, IsStepBy, IsPreparedStep}
@@ -76,14 +76,14 @@ module _ (shape : Shape) (c : Call) (cs : Cells) (own : Node) (m : Measured) (ha
       clash (sym (slot_is_left shape c cs own m has after is stands.state stands.home stands.standing stands.fit (w.0) (w.1) e) ∙ ap (λ (o : Pool). is_listed o.slots (least_free (used_slots stands.state.live stands.home))) (sym (copied (w.0) (w.1))) ∙ none _)
 
   -- ---- what is prepared first
-  pub after_node : (one two : Cells) (n : Node) → one ≡ cs → ((w : NodePair) → one.node c.node ≡ Some w → two ≡ put_node one c.node (record w { next = Some n }))
+  pub after_node : (one two : Cells) (n : Node) → one ≡ cs → ((w : NodeValues) → one.node c.node ≡ Some w → two ≡ put_node one c.node (record w { next = Some n }))
       → two ≡ changed cs (record { nodes = (c.node, n) ∷ []; pool = None; slots = [] })
   after_node one two n e put = node_prepared cs one two no_changes c.node n (e ∙ changed-none cs (has.ready).unprepared) node_there put
 
-  pub pool_left : (one two : Cells) (n : Node) → one ≡ cs → ((w : NodePair) → one.node c.node ≡ Some w → two ≡ put_node one c.node (record w { next = Some n })) → IsSome two.pool
+  pub pool_left : (one two : Cells) (n : Node) → one ≡ cs → ((w : NodeValues) → one.node c.node ≡ Some w → two ≡ put_node one c.node (record w { next = Some n })) → IsSome two.pool
   pool_left one two n e put = pool_still cs two (record { nodes = (c.node, n) ∷ []; pool = None; slots = [] }) (after_node one two n e put) pool_there
 
-  module _ (one two three : Cells) (n : Node) (p : Pool) (e : one ≡ cs) (put_own : (w : NodePair) → one.node c.node ≡ Some w → two ≡ put_node one c.node (record w { next = Some n }))
+  module _ (one two three : Cells) (n : Node) (p : Pool) (e : one ≡ cs) (put_own : (w : NodeValues) → one.node c.node ≡ Some w → two ≡ put_node one c.node (record w { next = Some n }))
       (put_free : (w : PoolPair) → two.pool ≡ Some w → three ≡ put_pool two (record w { next = Some p })) where
     abbrev first : Changes
     first = record { nodes = (c.node, n) ∷ []; pool = Some p; slots = [] }

@@ -10,6 +10,7 @@ use Rattle.state_model.specs.Amplitudes.{Amplitudes, AreDistinct, vector_of, qub
 use Rattle.state_model.specs.StateVector.{IsSameState}
 use Rattle.state_model.specs.Measurement.{draw, keep}
 use Rattle.state_model.specs.Registers.{Register, register_vector}
+use Rattle.std.proofs.Math.Bool.{or_comm}
 use Rattle.state_model.proofs.Booleans.{clash, eq_of, ne_of, eq_flip, or_false}
 use Rattle.state_model.proofs.SameStates.{same_reflexive}
 use Rattle.amplitude_register.specs.States.{RegisterState, prepared, empty, next_value, basis_state}
@@ -51,13 +52,7 @@ pub named_one : {A : Type 0} (k t : ℕ) (x : A) → ((k == t) || false) ≡ is_
 named_one k t x = or_false (k == t) ∙ sym (number_one k x t)
 
 pub named_two : {A : Type 0} (k j t : ℕ) (x y : A) → ((k == t) || (j == t)) ≡ is_some (change_at ((j, y) ∷ (k, x) ∷ []) t)
-named_two k j t x y = swap (k == t) (j == t) ∙ ap (λ b. b || (k == t)) (eq_flip j t) ∙ ap (λ b. (t == j) || b) (sym (number_one k x t)) ∙ sym (number_cons j y ((k, x) ∷ []) t)
-  where
-    swap : (a b : Bool) → (a || b) ≡ (b || a)
-    swap true true = refl
-    swap true false = refl
-    swap false true = refl
-    swap false false = refl
+named_two k j t x y = or_comm (k == t) (j == t) ∙ ap (λ b. b || (k == t)) (eq_flip j t) ∙ ap (λ b. (t == j) || b) (sym (number_one k x t)) ∙ sym (number_cons j y ((k, x) ∷ []) t)
 
 -- ---- what stays of a register
 module _ (place : ℕ) (b : Bool) (x : RegisterState) (a : Amplitudes) (q : ℕ) (out : IsTakenOut place b x (record x { next = prepared a })) (is : qubit_at x.value place ≡ q) where

@@ -26,7 +26,7 @@ use Rattle.cell_laws.proofs.NewSlots.{pair_list}
 use Rattle.cell_laws.proofs.StepSlots.{pair_step}
 use Rattle.core_cells.specs.Pool.{Pool}
 use Rattle.core_cells.specs.Cells.{Cells, CellsFit, put_node, put_pool}
-use Rattle.core_cells.specs.declared.cells.NodePair.{NodePair}
+use Rattle.core_cells.specs.Nodes.{NodeValues}
 use Rattle.core_cells.specs.declared.cells.PoolPair.{PoolPair}
 use Rattle.core_cells.specs.declared.cells.SlotCell.{SlotCell}
 use Rattle.factored_core.specs.Changes.{Changes, no_changes, changed, with_next_slot, AreNamed, IsStepBy, ChangesFit, IsPreparedStep, register_with}
@@ -66,7 +66,7 @@ unfolding takes_slot is_making
 pair_touches k r is = ap takes_slot is
 
 module _ (shape : Shape) (c : Call) (cs : Cells) (own : Node) (ready : IsReady shape c cs own) (r : Remote) (is : kind_of c.command.instr ≡ Pair r)
-    (other : ℕ) (there : other_of shape c ≡ Some other) (to : Node) (copied_to : (w : NodePair) → cs.node other ≡ Some w → to ≡ w.now)
+    (other : ℕ) (there : other_of shape c ≡ Some other) (to : Node) (copied_to : (w : NodeValues) → cs.node other ≡ Some w → to ≡ w.now)
     (p : Pool) (copied : (w : PoolPair) → cs.pool ≡ Some w → p ≡ w.now) where
   touch : takes_slot (kind_of c.command.instr) ≡ true
   touch = pair_touches (kind_of c.command.instr) r is
@@ -184,7 +184,7 @@ module _ (shape : Shape) (c : Call) (cs : Cells) (own : Node) (ready : IsReady s
       pub pair_leaves_own : IsSome (one.node c.node)
       pair_leaves_own = node_still cs one (record no_changes { pool = Some after }) c.node pooled (own_there shape c cs own ready)
 
-      module _ (two : Cells) (next : Node) (next_is : next ≡ given) (put_own : (w : NodePair) → one.node c.node ≡ Some w → two ≡ put_node one c.node (record w { next = Some next })) where
+      module _ (two : Cells) (next : Node) (next_is : next ≡ given) (put_own : (w : NodeValues) → one.node c.node ≡ Some w → two ≡ put_node one c.node (record w { next = Some next })) where
         abbrev first_half : Changes
         first_half = record { nodes = (c.node, given) ∷ []; pool = Some after; slots = [] }
 
@@ -195,7 +195,7 @@ module _ (shape : Shape) (c : Call) (cs : Cells) (own : Node) (ready : IsReady s
         pub pair_leaves_other : IsSome (two.node other)
         pair_leaves_other = node_still cs two first_half other held (other_there shape c cs own ready other there)
 
-        module _ (three : Cells) (arrived : Node) (arrived_is : arrived ≡ half) (put_other : (w : NodePair) → two.node other ≡ Some w → three ≡ put_node two other (record w { next = Some arrived })) where
+        module _ (three : Cells) (arrived : Node) (arrived_is : arrived ≡ half) (put_other : (w : NodeValues) → two.node other ≡ Some w → three ≡ put_node two other (record w { next = Some arrived })) where
           abbrev halves : Changes
           halves = record { nodes = with_other c.node given (Some other) half; pool = Some after; slots = [] }
 

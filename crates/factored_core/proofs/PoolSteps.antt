@@ -5,6 +5,7 @@ use Rattle.std.proofs.Common.{◌≡◌, ◌≢◌, ◌⊎◌, inl, inr, ℕ, �
 use Rattle.state_model.specs.Row.{is_listed, without}
 use Rattle.state_model.specs.declared.Two.{Two}
 use Rattle.state_model.specs.declared.Two.TheVariants as twos
+use Rattle.std.proofs.Math.Bool.{or_comm}
 use Rattle.state_model.proofs.Booleans.{clash, both_true, eq_true, eq_of, ne_of, or_false, or_false_left, or_false_right, eq_flip}
 use Rattle.state_model.proofs.Numbers.{is_listed-without, was_listed}
 use Rattle.network_model.specs.declared.Kind.{Kind}
@@ -89,13 +90,7 @@ module _ (shape : Shape) (s : Network) (home : ℕ → ℕ) (numbers slots : Lis
   -- the numbers beside the first that was taken
   beside_first : (n : ℕ) (mid : List ℕ) → ((q : ℕ) → is_listed mid q ≡ (is_listed numbers q && not (q == n))) → AreFree (length shape.places * shape.room) (n ∷ s.live) mid
   unfolding is_listed
-  beside_first n mid less = one_taken (length shape.places * shape.room) s.live numbers fits.numbers_free n (n ∷ s.live) mid less (λ q. swap (n == q) (is_listed s.live q) ∙ ap (λ b. is_listed s.live q || b) (eq_flip n q))
-    where
-      swap : (a b : Bool) → (a || b) ≡ (b || a)
-      swap true true = refl
-      swap true false = refl
-      swap false true = refl
-      swap false false = refl
+  beside_first n mid less = one_taken (length shape.places * shape.room) s.live numbers fits.numbers_free n (n ∷ s.live) mid less (λ q. or_comm (n == q) (is_listed s.live q) ∙ ap (λ b. is_listed s.live q || b) (eq_flip n q))
 
   -- the least number beside the first
   pub second_number_is : (n : ℕ) (mid : List ℕ) → ((q : ℕ) → is_listed mid q ≡ (is_listed numbers q && not (q == n)))

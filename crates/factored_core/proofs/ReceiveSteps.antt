@@ -19,7 +19,7 @@ use Rattle.epr_transfer.specs.Transfer.{first_waiting, next_id, taken_by, with_r
 use Rattle.epr_transfer.specs.declared.Taken.{Taken}
 use Rattle.cell_laws.specs.Standing.{IsStanding}
 use Rattle.core_cells.specs.Cells.{Cells, CellsFit, put_node}
-use Rattle.core_cells.specs.declared.cells.NodePair.{NodePair}
+use Rattle.core_cells.specs.Nodes.{NodeValues}
 use Rattle.factored_core.specs.Changes.{changed, IsStepBy, ChangesFit, IsPreparedStep}
 use Rattle.factored_core.specs.Ready.{IsReady}
 use Rattle.factored_core.specs.Replies.{in_nodes}
@@ -113,7 +113,7 @@ module _ (own : Node) (app : ℕ) (l : Line) where
       by (Some a) e h = absurd (no_some _ h)
 
 pub received_prepared : (shape : Shape) (c : Call) (cs : Cells) (own : Node) → IsReady shape c cs own → (l : Line) → kind_of c.command.instr ≡ Receive l → (t : Taken) → Some t ≡ taken_by own c.app l
-    → (next : Node) → next ≡ received_by own c.app l → (new : Cells) → ((w : NodePair) → cs.node c.node ≡ Some w → new ≡ put_node cs c.node (record w { next = Some next }))
+    → (next : Node) → next ≡ received_by own c.app l → (new : Cells) → ((w : NodeValues) → cs.node c.node ≡ Some w → new ≡ put_node cs c.node (record w { next = Some next }))
     → IsPreparedStep shape cs new (in_nodes c (receipt_reply l t.id t.info) None)
 received_prepared shape c cs own ready l is t got next next_is new put =
     let first = took_first own c.app l t got in

@@ -28,7 +28,7 @@ use Rattle.qubit_handles.specs.Handle.{number_of, AreDistinct}
 use Rattle.virtual_node.specs.Node.{Node, load_of, is_waiting, held_map, arrived_map}
 use Rattle.cell_laws.specs.Standing.{IsStanding}
 use Rattle.core_cells.specs.Cells.{Cells, CellsFit, IsUnprepared, HasHome}
-use Rattle.core_cells.specs.declared.cells.NodePair.{NodePair}
+use Rattle.core_cells.specs.Nodes.{NodeValues}
 use Rattle.factored_core.specs.Needs.{first_of, number_at, other_than, other_at, other_of}
 use Rattle.factored_core.specs.Changes.{Stands, IsPreparedStep}
 use Rattle.factored_core.specs.Ranges.{IsCallInRange}
@@ -115,31 +115,14 @@ below : (step : ℕ) → nat_lt step (2 ^ 8) ≡ true → step / 32 < 8
 below step h = let f = ltb-true step (2 ^ 8) h in omega (arith, f)
 
 -- a rotation by whole eighths turns by less than eight of them
-turned_x : (k : ℕ) (i : Instr) → is_in_range i ≡ true → kind_of i ≡ OneGate (gates.RotX k) → k < 8
-unfolding kind_of is_in_range
-turned_x k (instr.RotX step) r e = subst HasEighths (exact_gate step (gates.RotX (step / 32)) (gates.RotX k) e) (below step r)
-turned_x k (instr.RotY step) r e = subst HasEighths (exact_gate step (gates.RotY (step / 32)) (gates.RotX k) e) (below step r)
-turned_x k (instr.RotZ step) r e = subst HasEighths (exact_gate step (gates.RotZ (step / 32)) (gates.RotX k) e) (below step r)
-turned_x k i r e = cc
-
-turned_y : (k : ℕ) (i : Instr) → is_in_range i ≡ true → kind_of i ≡ OneGate (gates.RotY k) → k < 8
-unfolding kind_of is_in_range
-turned_y k (instr.RotX step) r e = subst HasEighths (exact_gate step (gates.RotX (step / 32)) (gates.RotY k) e) (below step r)
-turned_y k (instr.RotY step) r e = subst HasEighths (exact_gate step (gates.RotY (step / 32)) (gates.RotY k) e) (below step r)
-turned_y k (instr.RotZ step) r e = subst HasEighths (exact_gate step (gates.RotZ (step / 32)) (gates.RotY k) e) (below step r)
-turned_y k i r e = cc
-
-turned_z : (k : ℕ) (i : Instr) → is_in_range i ≡ true → kind_of i ≡ OneGate (gates.RotZ k) → k < 8
-unfolding kind_of is_in_range
-turned_z k (instr.RotX step) r e = subst HasEighths (exact_gate step (gates.RotX (step / 32)) (gates.RotZ k) e) (below step r)
-turned_z k (instr.RotY step) r e = subst HasEighths (exact_gate step (gates.RotY (step / 32)) (gates.RotZ k) e) (below step r)
-turned_z k (instr.RotZ step) r e = subst HasEighths (exact_gate step (gates.RotZ (step / 32)) (gates.RotZ k) e) (below step r)
-turned_z k i r e = cc
-
 pub eighths_of : (i : Instr) (g : Gate) → is_in_range i ≡ true → kind_of i ≡ OneGate g → HasEighths g
-eighths_of i (gates.RotX k) r e = turned_x k i r e
-eighths_of i (gates.RotY k) r e = turned_y k i r e
-eighths_of i (gates.RotZ k) r e = turned_z k i r e
+unfolding kind_of is_in_range
+eighths_of (instr.RotX step) g r e = subst HasEighths (exact_gate step (gates.RotX (step / 32)) g e) (below step r)
+eighths_of (instr.RotY step) g r e = subst HasEighths (exact_gate step (gates.RotY (step / 32)) g e) (below step r)
+eighths_of (instr.RotZ step) g r e = subst HasEighths (exact_gate step (gates.RotZ (step / 32)) g e) (below step r)
+eighths_of i (gates.RotX k) r e = cc
+eighths_of i (gates.RotY k) r e = cc
+eighths_of i (gates.RotZ k) r e = cc
 eighths_of i g r e = tt
 
 -- ---- tests
@@ -192,7 +175,7 @@ pub measure_is : (c : Call) (after a : After) (told t : Bool) → kind_of c.comm
 measure_is c after a told t is e f = is ∙ ap (λ x. Measure x told) e ∙ ap (Measure a) (sym f)
 
 -- a call is open where its own node was read
-pub open_is : (shape : Shape) (c : Call) (cs mid : Cells) (own : Node) → mid ≡ cs → (has : HasCells shape c cs) → ((w : NodePair) → cs.node c.node ≡ Some w → own ≡ w.now)
+pub open_is : (shape : Shape) (c : Call) (cs mid : Cells) (own : Node) → mid ≡ cs → (has : HasCells shape c cs) → ((w : NodeValues) → cs.node c.node ≡ Some w → own ≡ w.now)
     → Stands shape cs → IsUnprepared cs → IsCallInRange c → IsAllowedCall shape c → AreDistinct own.handles → IsOpen shape c mid own
 open_is shape c cs mid own same has copied stands unprepared range allowed distinct =
     subst (λ (d : Cells). IsOpen shape c d own) (sym same)
@@ -380,7 +363,7 @@ module _ (shape : Shape) (c : Call) (cs : Cells) (own : Node) (open_call : IsOpe
       away : (remote_node shape c r == c.node) ≡ false
       away = let e = other_is_remote shape c r other remote_is there in eq_false _ _ (λ f. (e.1) (sym (e.0) ∙ f))
 
-      module _ (to : Node) (copied : (w : NodePair) → cs.node other ≡ Some w → to ≡ w.now) (distinct : AreDistinct to.handles) (s : Network) (home : ℕ → ℕ) (standing : IsStanding shape s home) (fit : CellsFit shape s home cs) where
+      module _ (to : Node) (copied : (w : NodeValues) → cs.node other ≡ Some w → to ≡ w.now) (distinct : AreDistinct to.handles) (s : Network) (home : ℕ → ℕ) (standing : IsStanding shape s home) (fit : CellsFit shape s home cs) where
         to_load : load s (remote_node shape c r) ≡ load_of to
         to_load =
             let h = open_call.has in
@@ -410,7 +393,7 @@ module _ (shape : Shape) (c : Call) (cs : Cells) (own : Node) (open_call : IsOpe
     refused_alone none = refusable None General (sym none) (ap is_gate is) (λ s home standing fit.
         ap (refusal_of shape s c) is ∙ sent_lines s ∙ passes _ Unknown _ (held_is s home standing fit c.command.qubit q held) ∙ stops _ General _ (here r sent_remote none))
 
-    module _ (other : ℕ) (there : other_of shape c ≡ Some other) (to : Node) (copied : (w : NodePair) → cs.node other ≡ Some w → to ≡ w.now) (distinct : AreDistinct to.handles) where
+    module _ (other : ℕ) (there : other_of shape c ≡ Some other) (to : Node) (copied : (w : NodeValues) → cs.node other ≡ Some w → to ≡ w.now) (distinct : AreDistinct to.handles) where
       pub refused_send : shape.room ≤ load_of to → IsRefusable shape c cs own (Some other) NoQubit
       unfolding IsRefused refusal is_remote_refusal is_general
       refused_send full = refusable (Some other) NoQubit (sym there) refl (λ s home standing fit.
@@ -438,7 +421,7 @@ module _ (shape : Shape) (c : Call) (cs : Cells) (own : Node) (open_call : IsOpe
     unfolding IsRefused refusal is_remote_refusal is_general is_gate
     refused_partner none = refusable None General (sym none) (ap is_gate is) (λ s home standing fit. ap (refusal_of shape s c) is ∙ pair_lines s ∙ stops _ General _ (here r pair_remote none))
 
-    module _ (other : ℕ) (there : other_of shape c ≡ Some other) (to : Node) (copied : (w : NodePair) → cs.node other ≡ Some w → to ≡ w.now) (distinct : AreDistinct to.handles) where
+    module _ (other : ℕ) (there : other_of shape c ≡ Some other) (to : Node) (copied : (w : NodeValues) → cs.node other ≡ Some w → to ≡ w.now) (distinct : AreDistinct to.handles) where
       pub refused_own_room : shape.room ≤ load_of own → IsRefusable shape c cs own (Some other) NoQubit
       unfolding IsRefused refusal is_remote_refusal is_general
       refused_own_room full = refusable (Some other) NoQubit (sym there) refl (λ s home standing fit.

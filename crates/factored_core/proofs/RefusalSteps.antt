@@ -14,7 +14,7 @@ use Rattle.qubit_handles.specs.Handle.{number_of}
 use Rattle.virtual_node.specs.Node.{Node, held_map, arrived_map}
 use Rattle.cell_laws.specs.Standing.{IsStanding}
 use Rattle.core_cells.specs.Cells.{Cells, CellsFit, put_node}
-use Rattle.core_cells.specs.declared.cells.NodePair.{NodePair}
+use Rattle.core_cells.specs.Nodes.{NodeValues}
 use Rattle.factored_core.specs.Changes.{changed, change_at, with_next_node, IsStepBy, ChangesFit, IsPreparedStep}
 use Rattle.factored_core.specs.Needs.{other_of}
 use Rattle.factored_core.specs.Ready.{IsRefusable}
@@ -30,7 +30,7 @@ no_some : {A : Type 0} (a : A) → None ≡ Some a → ⊥
 no_some a e = cc
 
 -- what is there is still there when the own node's value is prepared
-pub still_there : (cs mid : Cells) (own : ℕ) (next : NodePair → NodePair) → IsSome (cs.node own) → ((w : NodePair) → cs.node own ≡ Some w → mid ≡ put_node cs own (next w)) → (o : Option ℕ) → IfSome o (λ n. IsSome (cs.node n)) → IfSome o (λ n. IsSome (mid.node n))
+pub still_there : (cs mid : Cells) (own : ℕ) (next : NodeValues → NodeValues) → IsSome (cs.node own) → ((w : NodeValues) → cs.node own ≡ Some w → mid ≡ put_node cs own (next w)) → (o : Option ℕ) → IfSome o (λ n. IsSome (cs.node n)) → IfSome o (λ n. IsSome (mid.node n))
 unfolding put_node
 still_there cs mid own next there put None h = h
 still_there cs mid own next there put (Some n) h =
@@ -56,7 +56,7 @@ module _ (shape : Shape) (c : Call) (cs : Cells) (own : Node) (f : Fault) (o : O
       let e = ready.refused s home standing fit in
       legal_entry shape s c None (reply.Error f) ready.range (ready.allowed).node (ready.allowed).instr (λ n i. absurd (no_some n i)) (sym (refused_draws_none shape s c f e)) (reply_refused shape s c 0 f e)
 
-  module _ (next : Node) (there : (n : ℕ) → o ≡ Some n → (w : NodePair) × (cs.node n ≡ Some w) × (w.now ≡ next)) where
+  module _ (next : Node) (there : (n : ℕ) → o ≡ Some n → (w : NodeValues) × (cs.node n ≡ Some w) × (w.now ≡ next)) where
     no_slot : (a b d : Bool) → (a && b) ≡ false → (a && b && d) ≡ false
     no_slot true b d e = ap (λ t. t && d) e
     no_slot false b d e = refl
@@ -86,18 +86,18 @@ module _ (shape : Shape) (c : Call) (cs : Cells) (own : Node) (f : Fault) (o : O
   other_there : (n : ℕ) → o ≡ Some n → IsSome (cs.node n)
   other_there n e = let h = ready.has in h.other n (looked_at (is_remote_refusal (reply.Error f)) (other_of shape c) n (sym e ∙ ready.looked))
 
-  pub refusal_prepared : (mid : Cells) → ((w : NodePair) → cs.node c.node ≡ Some w → mid ≡ put_node cs c.node (record w { next = Some own })) → (new : Cells)
-      → MatchOption o (new ≡ mid) (λ n. (w : NodePair) → mid.node n ≡ Some w → new ≡ put_node mid n (record w { next = Some w.now }))
+  pub refusal_prepared : (mid : Cells) → ((w : NodeValues) → cs.node c.node ≡ Some w → mid ≡ put_node cs c.node (record w { next = Some own })) → (new : Cells)
+      → MatchOption o (new ≡ mid) (λ n. (w : NodeValues) → mid.node n ≡ Some w → new ≡ put_node mid n (record w { next = Some w.now }))
       → IsPreparedStep shape cs new (in_nodes c (reply.Error f) o)
   refusal_prepared mid put new = by o refl
     where
       first : mid ≡ changed cs (of_nodes c.node own None own)
       first = one_node cs cs mid mid ready.unprepared refl c.node own own_there put
 
-      same : (a b : NodePair) → Some a ≡ Some b → a.now ≡ b.now
-      same a b i = ap (λ p. NodePair.now (unwrap_or p b)) i
+      same : (a b : NodeValues) → Some a ≡ Some b → a.now ≡ b.now
+      same a b i = ap (λ p. NodeValues.now (unwrap_or p b)) i
 
-      by : (p : Option ℕ) → o ≡ p → MatchOption p (new ≡ mid) (λ n. (w : NodePair) → mid.node n ≡ Some w → new ≡ put_node mid n (record w { next = Some w.now })) → IsPreparedStep shape cs new (in_nodes c (reply.Error f) p)
+      by : (p : Option ℕ) → o ≡ p → MatchOption p (new ≡ mid) (λ n. (w : NodeValues) → mid.node n ≡ Some w → new ≡ put_node mid n (record w { next = Some w.now })) → IsPreparedStep shape cs new (in_nodes c (reply.Error f) p)
       by None e kept = record {
         changes = of_nodes c.node own None own;
         after = kept ∙ first;
@@ -117,10 +117,10 @@ module _ (shape : Shape) (c : Call) (cs : Cells) (own : Node) (f : Fault) (o : O
           number : (k : ℕ) → Some n ≡ Some k → n ≡ k
           number k i = cc
 
-          there : (v : NodePair) → cs.node n ≡ Some v → (k : ℕ) → o ≡ Some k → (u : NodePair) × (cs.node k ≡ Some u) × (u.now ≡ v.now)
+          there : (v : NodeValues) → cs.node n ≡ Some v → (k : ℕ) → o ≡ Some k → (u : NodeValues) × (cs.node k ≡ Some u) × (u.now ≡ v.now)
           there v at k i = (v, ap cs.node (sym (number k (sym e ∙ i))) ∙ at, refl)
 
-          again : (v : NodePair) → cs.node n ≡ Some v → (u : NodePair) → mid.node n ≡ Some u → new ≡ put_node mid n (record u { next = Some v.now })
+          again : (v : NodeValues) → cs.node n ≡ Some v → (u : NodeValues) → mid.node n ≡ Some u → new ≡ put_node mid n (record u { next = Some v.now })
           again v at u here =
               kept u here
               ∙ ap (λ (x : Node). put_node mid n (record u { next = Some x }))

@@ -15,7 +15,7 @@ use Rattle.virtual_node.specs.Node.{Node, load_of, held_map, arrived_map, withou
 use Rattle.epr_transfer.specs.Transfer.{sent_to}
 use Rattle.cell_laws.specs.Standing.{IsStanding}
 use Rattle.core_cells.specs.Cells.{Cells, CellsFit, put_node}
-use Rattle.core_cells.specs.declared.cells.NodePair.{NodePair}
+use Rattle.core_cells.specs.Nodes.{NodeValues}
 use Rattle.factored_core.specs.Changes.{changed, IsStepBy, ChangesFit, IsPreparedStep}
 use Rattle.factored_core.specs.Needs.{other_of}
 use Rattle.factored_core.specs.Ready.{IsReady}
@@ -38,17 +38,17 @@ module _ (shape : Shape) (c : Call) (cs : Cells) (own : Node) (ready : IsReady s
   pub other_there : IsSome (cs.node other)
   other_there = let h = ready.has in h.other other there
 
-  pub other_is : (w : NodePair) × (cs.node other ≡ Some w)
+  pub other_is : (w : NodeValues) × (cs.node other ≡ Some w)
   other_is = there_is (cs.node other) other_there
 
-  module _ (to : Node) (copied : (w : NodePair) → cs.node other ≡ Some w → to ≡ w.now) where
+  module _ (to : Node) (copied : (w : NodeValues) → cs.node other ≡ Some w → to ≡ w.now) where
     pub other_fits : (s : Network) (home : ℕ → ℕ) → CellsFit shape s home cs → FitsNode s other (held_map to) (arrived_map to)
     other_fits s home fit =
         subst (λ (n : Node). FitsNode s other (held_map n) (arrived_map n)) (sym (copied (other_is.0) (other_is.1))) (fit.nodes other (other_is.0) (other_is.1))
 
 -- ---- a qubit is sent
 module _ (shape : Shape) (c : Call) (cs : Cells) (own : Node) (ready : IsReady shape c cs own) (r : Remote) (is : kind_of c.command.instr ≡ Send r)
-    (other : ℕ) (there : other_of shape c ≡ Some other) (to : Node) (copied : (w : NodePair) → cs.node other ≡ Some w → to ≡ w.now) where
+    (other : ℕ) (there : other_of shape c ≡ Some other) (to : Node) (copied : (w : NodeValues) → cs.node other ≡ Some w → to ≡ w.now) where
   remote_is : remote_of (kind_of c.command.instr) ≡ Some r
   remote_is = ap remote_of is ∙ unfold remote_of in refl
 
@@ -98,14 +98,14 @@ module _ (shape : Shape) (c : Call) (cs : Cells) (own : Node) (ready : IsReady s
     )
 
   -- ---- on the board
-  module _ (before mid : Cells) (same : before ≡ cs) (next : Node) (put : (w : NodePair) → before.node c.node ≡ Some w → mid ≡ put_node before c.node (record w { next = Some next })) where
+  module _ (before mid : Cells) (same : before ≡ cs) (next : Node) (put : (w : NodeValues) → before.node c.node ≡ Some w → mid ≡ put_node before c.node (record w { next = Some next })) where
     pub send_leaves_other : IsSome (mid.node other)
     send_leaves_other =
         node_still cs mid (of_nodes c.node next None next) other (one_node cs before mid mid ready.unprepared same c.node next (own_there shape c cs own ready) put)
         (other_there shape c cs own ready other there)
 
     module _ (next_is : next ≡ without_held own c.app c.command.qubit) (arrived : Node) (new : Cells)
-        (again : (w : NodePair) → mid.node other ≡ Some w → new ≡ put_node mid other (record w { next = Some arrived })) where
+        (again : (w : NodeValues) → mid.node other ≡ Some w → new ≡ put_node mid other (record w { next = Some arrived })) where
       by_number : (o : Option ℕ) → number_of own.handles c.app c.command.qubit ≡ o → IsSomeAnd o (λ n. arrived ≡ with_arrival to (sent_to r.app n)) → IsPreparedStep shape cs new (in_nodes c reply.Silent (Some other))
       by_number None e h = absurd h
       by_number (Some q) e h = record {

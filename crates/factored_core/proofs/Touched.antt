@@ -13,7 +13,7 @@ use Rattle.network_model.specs.declared.CoreReply.{CoreReply}
 use Rattle.network_model.specs.declared.CoreReply.TheVariants as reply
 use Rattle.virtual_node.specs.Node.{Node}
 use Rattle.core_cells.specs.Cells.{Cells, put_node, IsUnprepared}
-use Rattle.core_cells.specs.declared.cells.NodePair.{NodePair}
+use Rattle.core_cells.specs.Nodes.{NodeValues}
 use Rattle.factored_core.specs.Changes.{Changes, no_changes, changed, change_at, AreNamed}
 use Rattle.factored_core.specs.Needs.{other_than, other_at, other_of}
 use Rattle.factored_core.specs.Replies.{in_nodes}
@@ -104,9 +104,9 @@ named_in_nodes c own r o next = record {
 
 -- ---- both are prepared on a board where nothing is
 module _ (cs before mid new : Cells) (unprepared : IsUnprepared cs) (same : before ≡ cs) (node : ℕ) (own : Node) (own_there : IsSome (cs.node node))
-    (put : (w : NodePair) → before.node node ≡ Some w → mid ≡ put_node before node (record w { next = Some own })) where
+    (put : (w : NodeValues) → before.node node ≡ Some w → mid ≡ put_node before node (record w { next = Some own })) where
   pub one_node : mid ≡ changed cs (of_nodes node own None own)
   one_node = node_prepared cs before mid no_changes node own (same ∙ changed-none cs unprepared) own_there put
 
-  pub two_nodes : (n : ℕ) (next : Node) → IsSome (cs.node n) → ((w : NodePair) → mid.node n ≡ Some w → new ≡ put_node mid n (record w { next = Some next })) → new ≡ changed cs (of_nodes node own (Some n) next)
+  pub two_nodes : (n : ℕ) (next : Node) → IsSome (cs.node n) → ((w : NodeValues) → mid.node n ≡ Some w → new ≡ put_node mid n (record w { next = Some next })) → new ≡ changed cs (of_nodes node own (Some n) next)
   two_nodes n next there again = node_prepared cs mid new (of_nodes node own None own) n next one_node there again

@@ -24,7 +24,7 @@ use Rattle.cell_laws.proofs.Members.{same_pointwise}
 use Rattle.cell_laws.proofs.JoinedSlots.{both_parts}
 use Rattle.core_cells.specs.Pool.{Pool, IsSlotFreed}
 use Rattle.core_cells.specs.Cells.{Cells, put_node, put_pool, register_of}
-use Rattle.core_cells.specs.declared.cells.NodePair.{NodePair}
+use Rattle.core_cells.specs.Nodes.{NodeValues}
 use Rattle.core_cells.specs.declared.cells.PoolPair.{PoolPair}
 use Rattle.core_cells.specs.declared.cells.SlotCell.{SlotCell}
 use Rattle.factored_core.specs.Changes.{Changes, no_changes, changed, IsStepBy, AreNamed, IsPreparedStep, with_next_slot}
@@ -156,7 +156,7 @@ module _ (shape : Shape) (c : Call) (cs : Cells) (own : Node) (ready : IsReady s
         let g = gated cs no_changes start cell_one (at.first_spot).there in
         node_still cs mid (record no_changes { slots = (one.slot, g.0) ∷ [] }) c.node (g.1.0) own_present
 
-    pub inside_prepared : (new : Cells) → ((w : NodePair) → mid.node c.node ≡ Some w → new ≡ put_node mid c.node (record w { next = Some own })) → IsPreparedStep shape cs new (in_one_slot c None reply.Silent one.slot)
+    pub inside_prepared : (new : Cells) → ((w : NodeValues) → mid.node c.node ≡ Some w → new ≡ put_node mid c.node (record w { next = Some own })) → IsPreparedStep shape cs new (in_one_slot c None reply.Silent one.slot)
     inside_prepared new put =
         let g = gated cs no_changes start cell_one (at.first_spot).there in
         let applied = (g.1.1).applied in
@@ -195,7 +195,7 @@ module _ (shape : Shape) (c : Call) (cs : Cells) (own : Node) (ready : IsReady s
       pub apart_leaves_node : IsSome (late.node c.node)
       apart_leaves_node = node_still cs late (record no_changes { slots = (two.slot, both_kept.0) ∷ (one.slot, one_kept.0) ∷ [] }) c.node (both_kept.1.0) own_present
 
-      pub apart_prepared : (new : Cells) → ((w : NodePair) → late.node c.node ≡ Some w → new ≡ put_node late c.node (record w { next = Some own }))
+      pub apart_prepared : (new : Cells) → ((w : NodeValues) → late.node c.node ≡ Some w → new ≡ put_node late c.node (record w { next = Some own }))
           → ((x y : SlotCell) → cs.slot one.slot ≡ Some x → cs.slot two.slot ≡ Some y → IsTooBig x.register y.register)
           → IsPreparedStep shape cs new (in_two_slots c (reply.Error General) false one.slot two.slot)
       apart_prepared new put big = record {
@@ -306,7 +306,7 @@ module _ (shape : Shape) (c : Call) (cs : Cells) (own : Node) (ready : IsReady s
                 ∙ before ((cell_one.register).value.qubits) ((cell_two.register).value.qubits) one.place (at.first_spot).within ∙ (at.first_spot).number
 
             pub joined_prepared : ((x y : SlotCell) → cs.slot one.slot ≡ Some x → cs.slot two.slot ≡ Some y → AreMergeable x.register y.register)
-                → (new : Cells) → ((v : NodePair) → pooled.node c.node ≡ Some v → new ≡ put_node pooled c.node (record v { next = Some own }))
+                → (new : Cells) → ((v : NodeValues) → pooled.node c.node ≡ Some v → new ≡ put_node pooled c.node (record v { next = Some own }))
                 → IsPreparedStep shape cs new (in_two_slots c reply.Silent true one.slot two.slot)
             joined_prepared fits new put_own =
                 let can = (fits cell_one cell_two (at.first_spot).there (at.second_spot).there).fits in

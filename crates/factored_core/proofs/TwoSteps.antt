@@ -7,6 +7,7 @@ use Rattle.state_model.specs.Registers.{Register, register_vector, product_over}
 use Rattle.state_model.specs.Gate.{two_gate}
 use Rattle.state_model.specs.declared.Gate.{Gate}
 use Rattle.state_model.specs.declared.Two.{Two}
+use Rattle.std.proofs.Math.Bool.{or_comm}
 use Rattle.state_model.proofs.Booleans.{eq_true, eq_false, eq_flip}
 use Rattle.amplitude_register.specs.States.{no_qubit}
 use Rattle.cqc_model.specs.declared.Fault.TheVariants.{General}
@@ -52,16 +53,7 @@ in_slots node own pool t a u b = record { nodes = (node, own) ∷ []; pool = poo
 
 -- the numbers of two slots
 pub number_two : {A : Type 0} (t u : ℕ) (a b : A) (x : ℕ) → is_some (change_at ((u, b) ∷ (t, a) ∷ []) x) ≡ ((t == x) || (u == x))
-number_two t u a b x = number_cons u b ((t, a) ∷ []) x ∙ ap (λ c. (x == u) || c) (number_one t a x) ∙ flipped
-  where
-    swap : (m n : Bool) → (m || n) ≡ (n || m)
-    swap true true = refl
-    swap true false = refl
-    swap false true = refl
-    swap false false = refl
-
-    flipped : ((x == u) || (t == x)) ≡ ((t == x) || (u == x))
-    flipped = swap (x == u) (t == x) ∙ ap (λ c. (t == x) || c) (eq_flip x u)
+number_two t u a b x = number_cons u b ((t, a) ∷ []) x ∙ ap (λ c. (x == u) || c) (number_one t a x) ∙ or_comm (x == u) (t == x) ∙ ap (λ c. (t == x) || c) (eq_flip x u)
 
 module _ (shape : Shape) (c : Call) (cs : Cells) (own : Node) (ready : IsReady shape c cs own) (k : Two) (one two : Spot) (at : AreSpots c cs own k one two) where
   abbrev id : ℕ

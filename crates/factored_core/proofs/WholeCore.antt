@@ -25,7 +25,7 @@ use Rattle.qubit_handles.specs.Handle.{number_of}
 use Rattle.virtual_node.specs.Node.{Node}
 use Rattle.core_cells.specs.Cells.{Cells, CellsFit, HasAllCells, HasHome, IsUnprepared, settled, settled_node, settled_pool, settled_slot, forgotten}
 use Rattle.core_cells.specs.Owned.{IsOpened}
-use Rattle.core_cells.specs.declared.cells.NodePair.{NodePair}
+use Rattle.core_cells.specs.Nodes.{NodeValues}
 use Rattle.core_cells.specs.declared.cells.PoolPair.{PoolPair}
 use Rattle.core_cells.specs.declared.cells.SlotCell.{SlotCell}
 use Rattle.factored_core.specs.Changes.{Changes, changed, IsPreparedStep}
@@ -79,7 +79,7 @@ module _ (shape : Shape) (c : Call) (cs : Cells) (core : IsCore shape cs) (node 
   abbrev home : ℕ → ℕ
   home = core.stands.home
 
-  own : (w : NodePair) × (cs.node c.node ≡ Some w)
+  own : (w : NodeValues) × (cs.node c.node ≡ Some w)
   own = there_is (cs.node c.node) (core.all.nodes c.node node)
 
   held : (id q : ℕ) → number_of (own.0).now.handles c.app id ≡ Some q → is_listed s.live q ≡ true
@@ -124,7 +124,7 @@ undone shape cs mid new p free step e = e ∙ ap forgotten step.after ∙ forgot
 settled-unprepared : (cs : Cells) → IsUnprepared (settled cs)
 unfolding settled
 settled-unprepared cs = record {
-  node = λ m w is. let x = there settled_node (cs.node m) w is in sym (ap (λ (v : NodePair). v.next) (x.1.1));
+  node = λ m w is. let x = there settled_node (cs.node m) w is in sym (ap (λ (v : NodeValues). v.next) (x.1.1));
   pool = λ w is. let x = there settled_pool cs.pool w is in sym (ap (λ (v : PoolPair). v.next) (x.1.1));
   slot = λ t w is. let x = there settled_slot (cs.slot t) w is in sym (ap (λ (v : SlotCell). v.register.next) (x.1.1));
 }

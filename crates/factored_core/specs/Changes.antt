@@ -12,7 +12,7 @@ use Rattle.cell_laws.specs.Standing.{IsStanding}
 use Rattle.core_cells.specs.Pool.{Pool}
 use Rattle.core_cells.specs.Cells.{Cells, CellsFit}
 use Rattle.core_cells.specs.Names.{names_node, names_pool, names_slot, AreThere}
-use Rattle.core_cells.specs.declared.cells.NodePair.{NodePair}
+use Rattle.core_cells.specs.Nodes.{NodeValues}
 use Rattle.core_cells.specs.declared.cells.PoolPair.{PoolPair}
 use Rattle.core_cells.specs.declared.cells.SlotCell.{SlotCell}
 use Rattle.factored_core.specs.declared.prepared.Prepared.{Prepared}
@@ -38,7 +38,7 @@ next_of None = empty
 next_of (Some a) = prepared a
 
 -- a cell with this next value
-abbrev pub with_next_node : Option Node → NodePair → NodePair
+abbrev pub with_next_node : Option Node → NodeValues → NodeValues
 with_next_node o w = record w { next = o }
 
 abbrev pub with_next_pool : Option Pool → PoolPair → PoolPair

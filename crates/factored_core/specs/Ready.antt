@@ -14,7 +14,7 @@ use Rattle.virtual_node.specs.Node.{Node}
 use Rattle.cell_laws.specs.Standing.{IsStanding}
 use Rattle.core_cells.specs.Marks.{IsLeastListed}
 use Rattle.core_cells.specs.Cells.{Cells, CellsFit, IsUnprepared, HasHome}
-use Rattle.core_cells.specs.declared.cells.NodePair.{NodePair}
+use Rattle.core_cells.specs.Nodes.{NodeValues}
 use Rattle.core_cells.specs.declared.cells.PoolPair.{PoolPair}
 use Rattle.factored_core.specs.Changes.{Stands}
 use Rattle.factored_core.specs.Needs.{needs_of, other_of}
@@ -23,7 +23,7 @@ use Rattle.factored_core.specs.Vacancies.{touched_by}
 
 -- a board has the cells that a call's step may touch
 pub record HasCells (shape : Shape) (c : Call) (cs : Cells) : Type 0 where
-  pub own : NodePair
+  pub own : NodeValues
   pub own_there : cs.node c.node ≡ Some own
   pub other : (n : ℕ) → (needs_of shape c own.now).other ≡ Some n → IsSome (cs.node n)
   pub pool : (needs_of shape c own.now).pool ≡ true → IsSome cs.pool

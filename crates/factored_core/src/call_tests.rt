@@ -1,5 +1,5 @@
 //! Worked calls: what they need.
-use crate::needs::{Needs, call_needs};
+use crate::needs::{NOTHING, Needs, call_needs};
 use cqc_model::{Command, Instr, Remote};
 use network_model::{Call, Place};
 use qubit_handles::Handle;
@@ -62,27 +62,14 @@ fn a_gate_on_two_needs_both_numbers_and_the_pool(rt: HostRuntime) {
     let shape = Shape::new(&[OWN, OTHER], 2, 2);
     let node = two_held();
     let needs = call_needs(&shape, &call(1, Instr::Cphase(0)), &node);
-    assert!(rt;
-        needs
-            == Needs {
-                first: Some(9),
-                second: Some(7),
-                pool: true,
-                slot: false,
-                other: None
-            }
-    );
-    let missing = call_needs(&shape, &call(4, Instr::X), &node);
-    assert!(rt;
-        missing
-            == Needs {
-                first: None,
-                second: None,
-                pool: false,
-                slot: false,
-                other: None
-            }
-    );
+    let both = Needs {
+        first: Some(9),
+        second: Some(7),
+        pool: true,
+        ..NOTHING
+    };
+    assert!(rt; needs == both);
+    assert!(rt; call_needs(&shape, &call(4, Instr::X), &node) == NOTHING);
 }
 
 #[test]
@@ -90,25 +77,19 @@ fn a_transfer_needs_the_other_node(rt: HostRuntime) {
     let shape = Shape::new(&[OWN, OTHER], 2, 2);
     let node = two_held();
     let pair = call_needs(&shape, &call(0, Instr::Epr(remote(OTHER))), &node);
-    assert!(rt;
-        pair == Needs {
-            first: None,
-            second: None,
-            pool: true,
-            slot: true,
-            other: Some(1)
-        }
-    );
+    let made = Needs {
+        pool: true,
+        slot: true,
+        other: Some(1),
+        ..NOTHING
+    };
+    assert!(rt; pair == made);
     let sent = call_needs(&shape, &call(0, Instr::Send(remote(OWN))), &node);
-    assert!(rt;
-        sent == Needs {
-            first: Some(7),
-            second: None,
-            pool: false,
-            slot: false,
-            other: None
-        }
-    );
+    let held = Needs {
+        first: Some(7),
+        ..NOTHING
+    };
+    assert!(rt; sent == held);
 }
 
 #[test]

@@ -9,7 +9,7 @@ ghost use Rattle.factored_core.specs.Changes.{IsPreparedStep};
 ghost use Rattle.factored_core.specs.Ready.{IsOpen, IsReady};
 ghost use Rattle.factored_core.specs.Replies.{gate_reply as gate_reply_is, in_one_slot};
 
-use crate::prepared::{Prepared, entry_of};
+use crate::prepared::Prepared;
 use crate::refusals::refused;
 use crate::slots::{self, spot_of};
 use amplitude_register::TooLarge;
@@ -24,10 +24,10 @@ pub(crate) fn one<B: Board>(
     board: &mut B,
     shape: &Shape,
     call: &Call,
-    own: NodeCell,
+    own: &NodeCell,
     gate: Gate,
 ) -> Prepared
-    requires open { IsOpen shape.now call.now (B.cells board.old) own }
+    requires open { IsOpen shape.now call.now (B.cells board.old) own.now }
     requires kind { kind_of call.now.command.instr ≡ OneGate gate }
     ensures step { IsPreparedStep shape.now (B.cells board.old) (B.cells board.new) result }
     ensures call { result.entry.call ≡ call.now }
@@ -44,12 +44,12 @@ fn gated<B: Board>(
     board: &mut B,
     shape: &Shape,
     call: &Call,
-    own: NodeCell,
+    own: &NodeCell,
     number: u8,
     gate: Gate,
 ) -> Prepared
-    requires ready { IsReady shape.now call.now (B.cells board.old) own }
-    requires number { number_of own.handles call.now.app call.now.command.qubit ≡ Some number }
+    requires ready { IsReady shape.now call.now (B.cells board.old) own.now }
+    requires number { number_of own.now.handles call.now.app call.now.command.qubit ≡ Some number }
     requires home { HasHome (B.cells board.old) number }
     requires kind { kind_of call.now.command.instr ≡ OneGate gate }
     requires eighths { HasEighths gate }
@@ -69,9 +69,9 @@ pub(crate) fn inexact<B: Board>(
     board: &mut B,
     shape: &Shape,
     call: &Call,
-    own: NodeCell,
+    own: &NodeCell,
 ) -> Prepared
-    requires open { IsOpen shape.now call.now (B.cells board.old) own }
+    requires open { IsOpen shape.now call.now (B.cells board.old) own.now }
     requires kind { kind_of call.now.command.instr ≡ Inexact }
     ensures step { IsPreparedStep shape.now (B.cells board.old) (B.cells board.new) result }
     ensures call { result.entry.call ≡ call.now }
@@ -85,8 +85,8 @@ pub(crate) fn inexact<B: Board>(
 }
 
 /// Nothing is done to the call's own qubit, if that is held.
-pub(crate) fn idle<B: Board>(board: &mut B, shape: &Shape, call: &Call, own: NodeCell) -> Prepared
-    requires open { IsOpen shape.now call.now (B.cells board.old) own }
+pub(crate) fn idle<B: Board>(board: &mut B, shape: &Shape, call: &Call, own: &NodeCell) -> Prepared
+    requires open { IsOpen shape.now call.now (B.cells board.old) own.now }
     requires kind { kind_of call.now.command.instr ≡ Idle }
     ensures step { IsPreparedStep shape.now (B.cells board.old) (B.cells board.new) result }
     ensures call { result.entry.call ≡ call.now }
@@ -99,9 +99,9 @@ pub(crate) fn idle<B: Board>(board: &mut B, shape: &Shape, call: &Call, own: Nod
 }
 
 /// Nothing is done to a held qubit.
-fn kept<B: Board>(board: &mut B, shape: &Shape, call: &Call, own: NodeCell, number: u8) -> Prepared
-    requires ready { IsReady shape.now call.now (B.cells board.old) own }
-    requires number { number_of own.handles call.now.app call.now.command.qubit ≡ Some number }
+fn kept<B: Board>(board: &mut B, shape: &Shape, call: &Call, own: &NodeCell, number: u8) -> Prepared
+    requires ready { IsReady shape.now call.now (B.cells board.old) own.now }
+    requires number { number_of own.now.handles call.now.app call.now.command.qubit ≡ Some number }
     requires home { HasHome (B.cells board.old) number }
     requires kind { kind_of call.now.command.instr ≡ Idle }
     ensures step { IsPreparedStep shape.now (B.cells board.old) (B.cells board.new) result }
@@ -129,13 +129,7 @@ fn gate_reply(gated: &Result<(), TooLarge>) -> CoreReply
 pub(crate) fn in_slot(call: &Call, word: Option<u64>, reply: CoreReply, slot: u8) -> Prepared
     ensures { result ≡ in_one_slot call.now word reply slot }
 {
-    Prepared {
-        entry: entry_of(call, word, reply),
-        touched: [
-            Some(CellName::Node(call.node)),
-            Some(CellName::Slot(slot)),
-            None,
-            None,
-        ],
-    }
+    let own = CellName::Node(call.node);
+    let home = CellName::Slot(slot);
+    Prepared::of(call, word, reply, [Some(own), Some(home), None, None])
 }

@@ -8,7 +8,7 @@ ghost use Rattle.factored_core.specs.Changes.{IsPreparedStep};
 ghost use Rattle.factored_core.specs.Ready.{IsOpen};
 ghost use Rattle.factored_core.specs.Measurements.{IsTakenBy, IsLeftAs, measured_entry, measured_step, IsMeasured, HasMeasured, IsGivenBack};
 
-use crate::prepared::{Prepared, entry_of};
+use crate::prepared::Prepared;
 use crate::refusals::refused;
 use crate::slots;
 use crate::slots::Spot;
@@ -52,13 +52,13 @@ pub(crate) fn measure<B: Board, D: Dice>(
     ensures serial { D.begun_serial dice.new ≡ D.begun_serial dice.old }
 {
     let Some(number) = own.handles().find(call.app, call.command.qubit) else {
-        return refused(board, call, own, None, Fault::Unknown);
+        return refused(board, call, &own, None, Fault::Unknown);
     };
     let measured = drawn(board, number, dice.next(), told);
     match after {
         After::TakenOut => taken_out(board, shape, call, own, measured),
-        After::Left => left(board, shape, call, own, measured, measured.outcome),
-        After::Cleared => left(board, shape, call, own, measured, false),
+        After::Left => left(board, shape, call, &own, measured, measured.outcome),
+        After::Cleared => left(board, shape, call, &own, measured, false),
     }
 }
 
@@ -100,7 +100,7 @@ fn taken_out<B: Board>(
     shape.facts();
     own.drop_handle(call.app, call.command.qubit);
     let pool = given_back(held_pool(board), measured);
-    prepare_node(board, call.node, own);
+    prepare_node(board, call.node, &own);
     prepare_pool(board, pool);
     slots::take_out(board, measured.spot, measured.outcome);
     step_of(call, measured, None)
@@ -111,11 +111,11 @@ fn left<B: Board>(
     board: &mut B,
     shape: &Shape,
     call: &Call,
-    own: NodeCell,
+    own: &NodeCell,
     measured: Measured,
     value: bool,
 ) -> Prepared
-    requires measured { HasMeasured shape.now call.now (B.cells board.old) own measured }
+    requires measured { HasMeasured shape.now call.now (B.cells board.old) own.now measured }
     requires left { IsLeftAs call.now measured value }
     ensures step { IsPreparedStep shape.now (B.cells board.old) (B.cells board.new) result }
     ensures entry { result.entry ≡ measured_entry call.now measured }
@@ -132,11 +132,11 @@ fn left_alone<B: Board>(
     board: &mut B,
     shape: &Shape,
     call: &Call,
-    own: NodeCell,
+    own: &NodeCell,
     measured: Measured,
     value: bool,
 ) -> Prepared
-    requires measured { HasMeasured shape.now call.now (B.cells board.old) own measured }
+    requires measured { HasMeasured shape.now call.now (B.cells board.old) own.now measured }
     requires left { IsLeftAs call.now measured value }
     requires alone { measured.alone ≡ true }
     ensures step { IsPreparedStep shape.now (B.cells board.old) (B.cells board.new) result }
@@ -155,11 +155,11 @@ fn moved_out<B: Board>(
     board: &mut B,
     shape: &Shape,
     call: &Call,
-    own: NodeCell,
+    own: &NodeCell,
     measured: Measured,
     value: bool,
 ) -> Prepared
-    requires measured { HasMeasured shape.now call.now (B.cells board.old) own measured }
+    requires measured { HasMeasured shape.now call.now (B.cells board.old) own.now measured }
     requires left { IsLeftAs call.now measured value }
     requires alone { measured.alone ≡ false }
     ensures step { IsPreparedStep shape.now (B.cells board.old) (B.cells board.new) result }
@@ -197,15 +197,11 @@ fn step_of(call: &Call, measured: Measured, other: Option<u8>) -> Prepared
     ensures { result ≡ measured_step call.now measured other }
 {
     let reply = answer(measured.told, measured.outcome);
-    Prepared {
-        entry: entry_of(call, Some(measured.word), reply),
-        touched: [
-            Some(CellName::Node(call.node)),
-            Some(CellName::Slot(measured.spot.slot)),
-            Some(CellName::Pool),
-            other.map(|slot| CellName::Slot(slot)),
-        ],
-    }
+    let own = CellName::Node(call.node);
+    let home = CellName::Slot(measured.spot.slot);
+    let other = other.map(|slot| CellName::Slot(slot));
+    let touched = [Some(own), Some(home), Some(CellName::Pool), other];
+    Prepared::of(call, Some(measured.word), reply, touched)
 }
 
 /// The reply to a measurement, whose outcome is told or not.

@@ -18,7 +18,7 @@ pub struct Needs {
 }
 
 // What a receipt needs.
-const NOTHING: Needs = Needs {
+pub(crate) const NOTHING: Needs = Needs {
     first: None,
     second: None,
     pool: false,

@@ -7,7 +7,7 @@ ghost use Rattle.network_model.specs.declared.Place.{Place as PlaceIs};
 ghost use Rattle.virtual_node.specs.Node.{load_of, with_handle};
 ghost use Rattle.epr_transfer.specs.Transfer.{handle_of, next_id};
 ghost use Rattle.core_cells.specs.Pool.{Pool};
-ghost use Rattle.core_cells.specs.declared.cells.NodePair.{NodePair};
+ghost use Rattle.core_cells.specs.Nodes.{NodeValues};
 ghost use Rattle.factored_core.specs.Changes.{IsPreparedStep};
 ghost use Rattle.factored_core.specs.Needs.{other_of};
 ghost use Rattle.factored_core.specs.Ready.{IsOpen, IsReady};
@@ -16,7 +16,7 @@ ghost use Rattle.factored_core.specs.declared.new_qubits.Vacancy.{Vacancy as Vac
 ghost use Rattle.factored_core.specs.Vacancies.{IsTaken, IsPairTaken, info_of};
 
 use crate::needs::other_at;
-use crate::prepared::{Prepared, entry_of};
+use crate::prepared::Prepared;
 use crate::refusals::refused;
 use crate::slots;
 use core_cells::{Board, CellName, PoolCell, held_node, held_pool, prepare_node, prepare_pool};
@@ -51,7 +51,7 @@ pub(crate) fn make<B: Board>(board: &mut B, shape: &Shape, call: &Call, own: Nod
     if own.held() < shape.room() {
         made(board, shape, call, own)
     } else {
-        refused(board, call, own, None, Fault::NoQubit)
+        refused(board, call, &own, None, Fault::NoQubit)
     }
 }
 
@@ -70,7 +70,7 @@ fn made<B: Board>(board: &mut B, shape: &Shape, call: &Call, mut own: NodeCell) 
     let vacancy = take_least(&mut pool);
     let id = give(&mut own, call.app, vacancy.number);
     prepare_pool(board, pool);
-    prepare_node(board, call.node, own);
+    prepare_node(board, call.node, &own);
     slots::set(board, vacancy.slot, vacancy.number, false);
     in_new_slot(call, CoreReply::New(id), None, vacancy.slot)
 }
@@ -90,15 +90,15 @@ pub(crate) fn pair<B: Board>(
     ensures word { result.entry.word ≡ None }
 {
     let Some(other) = other_at(shape, call.node, remote) else {
-        return refused(board, call, own, None, Fault::General);
+        return refused(board, call, &own, None, Fault::General);
     };
     let to = held_node(board, other);
     to.facts();
     if own.held() >= shape.room() || to.held() >= shape.room() {
-        return refused(board, call, own, Some(other), Fault::NoQubit);
+        return refused(board, call, &own, Some(other), Fault::NoQubit);
     }
     if shape.limit() < 2 {
-        return refused(board, call, own, Some(other), Fault::General);
+        return refused(board, call, &own, Some(other), Fault::General);
     }
     paired(board, shape, call, own, other, to, remote)
 }
@@ -116,7 +116,7 @@ fn paired<B: Board>(
     requires ready { IsReady shape.now call.now (B.cells board.old) own }
     requires kind { kind_of call.now.command.instr ≡ PairKind remote.now }
     requires other { other_of shape.now call.now ≡ Some other }
-    requires copied { (w : NodePair) → (B.cells board.old).node other ≡ Some w → to ≡ w.now }
+    requires copied { (w : NodeValues) → (B.cells board.old).node other ≡ Some w → to ≡ w.now }
     requires own_room { load_of own < shape.now.room }
     requires other_room { load_of to < shape.now.room }
     requires limit { 2 ≤ shape.now.limit }
@@ -141,8 +141,8 @@ fn paired<B: Board>(
         info,
     );
     prepare_pool(board, pool);
-    prepare_node(board, call.node, own);
-    prepare_node(board, other, to);
+    prepare_node(board, call.node, &own);
+    prepare_node(board, other, &to);
     slots::set_pair(board, first.slot, first.number, vacancy.second);
     in_new_slot(call, CoreReply::Pair(id, info), Some(other), first.slot)
 }
@@ -218,13 +218,9 @@ fn give(node: &mut NodeCell, app: u16, number: u8) -> u16
 fn in_new_slot(call: &Call, reply: CoreReply, other: Option<u8>, slot: u8) -> Prepared
     ensures { result ≡ in_new_slot_is call.now reply other slot }
 {
-    Prepared {
-        entry: entry_of(call, None, reply),
-        touched: [
-            Some(CellName::Node(call.node)),
-            Some(CellName::Slot(slot)),
-            Some(CellName::Pool),
-            other.map(|node| CellName::Node(node)),
-        ],
-    }
+    let own = CellName::Node(call.node);
+    let home = CellName::Slot(slot);
+    let other = other.map(|node| CellName::Node(node));
+    let touched = [Some(own), Some(home), Some(CellName::Pool), other];
+    Prepared::of(call, None, reply, touched)
 }

@@ -39,10 +39,10 @@ pub fn prepare<B: Board, D: Dice>(
     let own = held_node(board, call.node);
     own.facts();
     match kind_of(&call.command.instr) {
-        Kind::Idle => gates::idle(board, shape, call, own),
-        Kind::Gate(gate) => gates::one(board, shape, call, own, gate),
-        Kind::Inexact => gates::inexact(board, shape, call, own),
-        Kind::Two(gate, id) => two_qubit_gates::two(board, shape, call, own, gate, id),
+        Kind::Idle => gates::idle(board, shape, call, &own),
+        Kind::Gate(gate) => gates::one(board, shape, call, &own, gate),
+        Kind::Inexact => gates::inexact(board, shape, call, &own),
+        Kind::Two(gate, id) => two_qubit_gates::two(board, shape, call, &own, gate, id),
         Kind::Measure(after, told) => {
             measurements::measure(board, shape, call, own, after, told, dice)
         }

@@ -12,21 +12,29 @@ pub struct Prepared {
 }
 
 impl Prepared {
+    /// The step of a call, with its word, its reply, and the names of the cells that it touches.
+    pub(crate) fn of(
+        call: &Call,
+        word: Option<u64>,
+        reply: CoreReply,
+        touched: [Option<CellName>; 4],
+    ) -> Prepared
+        ensures { result ≡ record { entry = record { call = call.now; word = word; reply = reply }; touched = touched } }
+    {
+        Prepared {
+            entry: Entry {
+                call: *call,
+                word,
+                reply,
+            },
+            touched,
+        }
+    }
+
     /// The entry that the step adds to the history.
     pub fn entry(&self) -> Entry
         ensures { result ≡ self.now.entry }
     {
         self.entry
-    }
-}
-
-/// The entry of a call.
-pub(crate) fn entry_of(call: &Call, word: Option<u64>, reply: CoreReply) -> Entry
-    ensures { result ≡ record { call = call.now; word = word; reply = reply } }
-{
-    Entry {
-        call: *call,
-        word,
-        reply,
     }
 }

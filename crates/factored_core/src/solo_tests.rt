@@ -86,19 +86,21 @@ fn first_wrong(alloc: Global, shape: Shape, cases: &[Case]) -> Result<Option<usi
     Network::open(alloc, shape)?.first_wrong(alloc, cases)
 }
 
+// The place at a port.
+fn at(port: u16) -> Place
+    ensures { result ≡ record { address = 2130706433; port = port } }
+{
+    Place {
+        address: ADDRESS,
+        port,
+    }
+}
+
 // Two nodes with this room and this limit of entangled qubits.
 fn two_nodes(room: u8, limit: u8) -> Shape
     requires { (1 ≤ room) × (room ≤ 16) × (1 ≤ limit) × (limit ≤ 12) }
 {
-    let own = Place {
-        address: ADDRESS,
-        port: OWN_PORT,
-    };
-    let other = Place {
-        address: ADDRESS,
-        port: OTHER_PORT,
-    };
-    Shape::new(&[own, other], room, limit)
+    Shape::new(&[at(OWN_PORT), at(OTHER_PORT)], room, limit)
 }
 
 // A call of a node's application, from the seat with the node's number.
@@ -325,16 +327,6 @@ fn a_teleported_qubit_is_the_sent_one(rt: HostRuntime) -> Result<(), Fail> {
         assert_eq!(rt; network.first_wrong(rt.alloc(), &turned_back)?, None);
     }
     Ok(())
-}
-
-// The place at a port.
-fn at(port: u16) -> Place
-    ensures { result ≡ record { address = 2130706433; port = port } }
-{
-    Place {
-        address: ADDRESS,
-        port,
-    }
 }
 
 // Eight nodes, and the most that a network may hold.

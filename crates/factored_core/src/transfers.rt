@@ -5,14 +5,14 @@ ghost use Rattle.network_model.specs.Step.{receipt_reply};
 ghost use Rattle.network_model.specs.declared.Kind.TheVariants.{Send, Receive};
 ghost use Rattle.qubit_handles.specs.Handle.{number_of};
 ghost use Rattle.virtual_node.specs.Node.{load_of};
-ghost use Rattle.core_cells.specs.declared.cells.NodePair.{NodePair};
+ghost use Rattle.core_cells.specs.Nodes.{NodeValues};
 ghost use Rattle.factored_core.specs.Changes.{IsPreparedStep};
 ghost use Rattle.factored_core.specs.Needs.{other_of};
 ghost use Rattle.factored_core.specs.Ready.{IsOpen, IsReady};
 ghost use Rattle.factored_core.specs.Replies.{in_nodes as in_nodes_is};
 
 use crate::needs::other_at;
-use crate::prepared::{Prepared, entry_of};
+use crate::prepared::Prepared;
 use crate::refusals::refused;
 use core_cells::{Board, CellName, held_node, prepare_node};
 use cqc_model::{Fault, Remote};
@@ -35,17 +35,17 @@ pub(crate) fn send<B: Board>(
     ensures word { result.entry.word ≡ None }
 {
     let Some(_number) = own.handles().find(call.app, call.command.qubit) else {
-        return refused(board, call, own, None, Fault::Unknown);
+        return refused(board, call, &own, None, Fault::Unknown);
     };
     let Some(other) = other_at(shape, call.node, remote) else {
-        return refused(board, call, own, None, Fault::General);
+        return refused(board, call, &own, None, Fault::General);
     };
     let to = held_node(board, other);
     to.facts();
     if to.held() < shape.room() {
         sent(board, shape, call, own, other, to, remote)
     } else {
-        refused(board, call, own, Some(other), Fault::NoQubit)
+        refused(board, call, &own, Some(other), Fault::NoQubit)
     }
 }
 
@@ -63,7 +63,7 @@ fn sent<B: Board>(
     requires kind { kind_of call.now.command.instr ≡ Send remote.now }
     requires held { IsSome (number_of own.handles call.now.app call.now.command.qubit) }
     requires other { other_of shape.now call.now ≡ Some other }
-    requires copied { (w : NodePair) → (B.cells board.old).node other ≡ Some w → to ≡ w.now }
+    requires copied { (w : NodeValues) → (B.cells board.old).node other ≡ Some w → to ≡ w.now }
     requires room { load_of to < shape.now.room }
     ensures step { IsPreparedStep shape.now (B.cells board.old) (B.cells board.new) result }
     ensures call { result.entry.call ≡ call.now }
@@ -71,8 +71,8 @@ fn sent<B: Board>(
 {
     shape.facts();
     epr_transfer::send(&mut own, &mut to, call.app, call.command.qubit, remote.app);
-    prepare_node(board, call.node, own);
-    prepare_node(board, other, to);
+    prepare_node(board, call.node, &own);
+    prepare_node(board, other, &to);
     in_nodes(call, CoreReply::Silent, Some(other))
 }
 
@@ -91,9 +91,9 @@ pub(crate) fn receive<B: Board>(
     ensures word { result.entry.word ≡ None }
 {
     let Some(taken) = epr_transfer::receive(&mut own, call.app, line) else {
-        return refused(board, call, own, None, Fault::Timeout);
+        return refused(board, call, &own, None, Fault::Timeout);
     };
-    prepare_node(board, call.node, own);
+    prepare_node(board, call.node, &own);
     in_nodes(call, received(line, &taken), None)
 }
 
@@ -112,13 +112,7 @@ fn received(line: Line, taken: &Taken) -> CoreReply
 pub(crate) fn in_nodes(call: &Call, reply: CoreReply, other: Option<u8>) -> Prepared
     ensures { result ≡ in_nodes_is call.now reply other }
 {
-    Prepared {
-        entry: entry_of(call, None, reply),
-        touched: [
-            Some(CellName::Node(call.node)),
-            other.map(|node| CellName::Node(node)),
-            None,
-            None,
-        ],
-    }
+    let own = CellName::Node(call.node);
+    let other = other.map(|node| CellName::Node(node));
+    Prepared::of(call, None, reply, [Some(own), other, None, None])
 }

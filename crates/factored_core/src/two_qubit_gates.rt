@@ -16,7 +16,7 @@ ghost use Rattle.factored_core.specs.Replies.{in_one_slot, in_two_slots};
 
 use crate::gates::in_slot;
 use crate::pairs;
-use crate::prepared::{Prepared, entry_of};
+use crate::prepared::Prepared;
 use crate::refusals::refused;
 use crate::slots::{self, Spot, spot_of};
 use core_cells::{Board, CellName, PoolCell, held_pool, prepare_node, prepare_pool};
@@ -31,11 +31,11 @@ pub(crate) fn two<B: Board>(
     board: &mut B,
     shape: &Shape,
     call: &Call,
-    own: NodeCell,
+    own: &NodeCell,
     gate: Two,
     id: u16,
 ) -> Prepared
-    requires open { IsOpen shape.now call.now (B.cells board.old) own }
+    requires open { IsOpen shape.now call.now (B.cells board.old) own.now }
     requires kind { kind_of call.now.command.instr ≡ TwoGate gate id }
     ensures step { IsPreparedStep shape.now (B.cells board.old) (B.cells board.new) result }
     ensures call { result.entry.call ≡ call.now }
@@ -58,13 +58,13 @@ fn both<B: Board>(
     board: &mut B,
     shape: &Shape,
     call: &Call,
-    own: NodeCell,
+    own: &NodeCell,
     first: u8,
     second: u8,
     gate: Two,
 ) -> Prepared
-    requires ready { IsReady shape.now call.now (B.cells board.old) own }
-    requires operands { IsTwoCall call.now own gate first second }
+    requires ready { IsReady shape.now call.now (B.cells board.old) own.now }
+    requires operands { IsTwoCall call.now own.now gate first second }
     requires first { HasHome (B.cells board.old) first }
     requires second { HasHome (B.cells board.old) second }
     ensures step { IsPreparedStep shape.now (B.cells board.old) (B.cells board.new) result }
@@ -87,13 +87,13 @@ fn inside<B: Board>(
     board: &mut B,
     shape: &Shape,
     call: &Call,
-    own: NodeCell,
+    own: &NodeCell,
     one: Spot,
     other: u8,
     gate: Two,
 ) -> Prepared
-    requires ready { IsReady shape.now call.now (B.cells board.old) own }
-    requires spots { AreSpots call.now (B.cells board.old) own gate one (record { slot = one.slot; place = other }) }
+    requires ready { IsReady shape.now call.now (B.cells board.old) own.now }
+    requires spots { AreSpots call.now (B.cells board.old) own.now gate one (record { slot = one.slot; place = other }) }
     ensures step { IsPreparedStep shape.now (B.cells board.old) (B.cells board.new) result }
     ensures call { result.entry.call ≡ call.now }
     ensures word { result.entry.word ≡ None }
@@ -109,12 +109,12 @@ fn apart<B: Board>(
     board: &mut B,
     shape: &Shape,
     call: &Call,
-    own: NodeCell,
+    own: &NodeCell,
     one: Spot,
     two: Spot,
 ) -> Prepared
-    requires ready { IsReady shape.now call.now (B.cells board.old) own }
-    requires spots { (gate : TwoIs) × AreSpots call.now (B.cells board.old) own gate one two }
+    requires ready { IsReady shape.now call.now (B.cells board.old) own.now }
+    requires spots { (gate : TwoIs) × AreSpots call.now (B.cells board.old) own.now gate one two }
     requires apart { one.slot ≢ two.slot }
     requires big { (x y : SlotCell) → (B.cells board.old).slot one.slot ≡ Some x → (B.cells board.old).slot two.slot ≡ Some y → IsTooBig x.register y.register }
     ensures step { IsPreparedStep shape.now (B.cells board.old) (B.cells board.new) result }
@@ -139,13 +139,13 @@ fn joined<B: Board>(
     board: &mut B,
     shape: &Shape,
     call: &Call,
-    own: NodeCell,
+    own: &NodeCell,
     one: Spot,
     two: Spot,
     gate: Two,
 ) -> Prepared
-    requires ready { IsReady shape.now call.now (B.cells board.old) own }
-    requires spots { AreSpots call.now (B.cells board.old) own gate one two }
+    requires ready { IsReady shape.now call.now (B.cells board.old) own.now }
+    requires spots { AreSpots call.now (B.cells board.old) own.now gate one two }
     requires apart { one.slot ≢ two.slot }
     requires fits { (x y : SlotCell) → (B.cells board.old).slot one.slot ≡ Some x → (B.cells board.old).slot two.slot ≡ Some y → AreMergeable x.register y.register }
     ensures step { IsPreparedStep shape.now (B.cells board.old) (B.cells board.new) result }
@@ -179,13 +179,13 @@ fn freed<B: Board>(board: &mut B, slot: u8) -> PoolCell
 fn in_both(call: &Call, reply: CoreReply, pool: bool, one: u8, two: u8) -> Prepared
     ensures { result ≡ in_two_slots call.now reply pool one two }
 {
-    Prepared {
-        entry: entry_of(call, None, reply),
-        touched: [
-            Some(CellName::Node(call.node)),
-            Some(CellName::Slot(one)),
-            Some(CellName::Slot(two)),
-            if pool { Some(CellName::Pool) } else { None },
-        ],
-    }
+    let own = CellName::Node(call.node);
+    let pool = if pool { Some(CellName::Pool) } else { None };
+    let touched = [
+        Some(own),
+        Some(CellName::Slot(one)),
+        Some(CellName::Slot(two)),
+        pool,
+    ];
+    Prepared::of(call, None, reply, touched)
 }

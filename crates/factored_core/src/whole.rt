@@ -37,7 +37,7 @@ impl Core {
         ensures shape { IfOk result (λ c. c.shape ≡ shape) }
         ensures stands { IfOk result (λ c. StandsFor shape [] (cells_of c.owned)) }
     {
-        let _limit = shape.limit();
+        shape.facts();
         let board = OwnedCells::open(alloc, &shape)?;
         Ok(Core { shape, board })
     }

@@ -68,98 +68,81 @@ fn plain_nodes_have_ports_of_their_own(rt: HostRuntime) -> Result<(), Fail> {
 
 #[test]
 fn keys_of_the_top_table_are_checked(rt: HostRuntime) -> Result<(), Fail> {
-    let alloc = rt.alloc();
-    let missing = SettingsFault::Missing {
-        key: Key::Seed,
-        node: 0,
-    };
-    assert_eq!(rt; refusal(alloc, &[NUMBERS, TWO_NODES])?, Some(missing));
-    let range = SettingsFault::Range {
-        key: Key::Limit,
-        node: 0,
-    };
-    assert_eq!(rt;
-        refusal(alloc, &[SEED, "limit = 13\n", TWO_NODES])?,
-        Some(range)
-    );
-    let kind = SettingsFault::Kind {
-        key: Key::Room,
-        node: 0,
-    };
-    assert_eq!(rt;
-        refusal(alloc, &[SEED, "room = \"16\"\n", TWO_NODES])?,
-        Some(kind)
-    );
-    let spelling = SettingsFault::Spelling {
-        key: Key::Seed,
-        node: 0,
-    };
-    assert_eq!(rt;
-        refusal(alloc, &["seed = \"00\"\nlimit = 13\n"])?,
-        Some(spelling)
-    );
-    let strange = SettingsFault::Strange {
-        table: 0,
-        before: 0,
-    };
-    assert_eq!(rt;
-        refusal(alloc, &["colour = 1\n", NUMBERS, TWO_NODES])?,
-        Some(strange)
-    );
-    let none = SettingsFault::Range {
-        key: Key::Node,
-        node: 0,
-    };
-    assert_eq!(rt; refusal(alloc, &[SEED, "node = []\n"])?, Some(none));
-    for text in [
-        "seed = ",
-        "journal = 9223372036854775808",
-        "limit = 1\nlimit = 1",
-    ] {
-        assert_eq!(rt; refusal(alloc, &[text])?, Some(SettingsFault::NotToml));
+    use Key::{Limit, Node, Room, Seed};
+    use SettingsFault::{Kind, Missing, NotToml, Range, Spelling, Strange};
+    let node = 0;
+    let cases: [(&[&str], SettingsFault); 9] = [
+        (&[NUMBERS, TWO_NODES], Missing { key: Seed, node }),
+        (
+            &[SEED, "limit = 13\n", TWO_NODES],
+            Range { key: Limit, node },
+        ),
+        (
+            &[SEED, "room = \"16\"\n", TWO_NODES],
+            Kind { key: Room, node },
+        ),
+        (
+            &["seed = \"00\"\nlimit = 13\n"],
+            Spelling { key: Seed, node },
+        ),
+        (
+            &["colour = 1\n", NUMBERS, TWO_NODES],
+            Strange {
+                table: 0,
+                before: 0,
+            },
+        ),
+        (&[SEED, "node = []\n"], Range { key: Node, node }),
+        (&["seed = "], NotToml),
+        (&["journal = 9223372036854775808"], NotToml),
+        (&["limit = 1\nlimit = 1"], NotToml),
+    ];
+    for (pieces, fault) in cases {
+        assert_eq!(rt; refusal(rt.alloc(), pieces)?, Some(fault));
     }
     Ok(())
 }
 
 #[test]
 fn nodes_are_checked_in_order(rt: HostRuntime) -> Result<(), Fail> {
-    let alloc = rt.alloc();
-    let first = SettingsFault::Doubled {
-        first: 0,
-        second: 1,
-    };
-    assert_eq!(rt;
-        refusal(alloc, &[SEED, FIRST_AGAIN, FIRST_AGAIN])?,
-        Some(first)
-    );
-    let later = SettingsFault::Doubled {
-        first: 0,
-        second: 2,
-    };
-    assert_eq!(rt;
-        refusal(alloc, &[SEED, TWO_NODES, FIRST_AGAIN])?,
-        Some(later)
-    );
-    let spelling = SettingsFault::Spelling {
-        key: Key::Address,
-        node: 2,
-    };
+    use Key::{Address, Port};
+    use SettingsFault::{Doubled, Range, Spelling, Strange};
     let padded = "[[node]]\naddress = \"127.0.0.01\"\nport = 0\n";
-    assert_eq!(rt; refusal(alloc, &[SEED, TWO_NODES, padded])?, Some(spelling));
-    let strange = SettingsFault::Strange {
-        table: 3,
-        before: 1,
-    };
     let coloured = "[[node]]\naddress = 1\ncolour = 1\n";
-    assert_eq!(rt;
-        refusal(alloc, &[SEED, TWO_NODES, coloured])?,
-        Some(strange)
-    );
-    let range = SettingsFault::Range {
-        key: Key::Port,
-        node: 0,
-    };
     let no_port = "[[node]]\naddress = \"127.0.0.1\"\nport = 0\n";
-    assert_eq!(rt; refusal(alloc, &[SEED, no_port, coloured])?, Some(range));
+    let cases: [(&[&str], SettingsFault); 5] = [
+        (
+            &[SEED, FIRST_AGAIN, FIRST_AGAIN],
+            Doubled {
+                first: 0,
+                second: 1,
+            },
+        ),
+        (
+            &[SEED, TWO_NODES, FIRST_AGAIN],
+            Doubled {
+                first: 0,
+                second: 2,
+            },
+        ),
+        (
+            &[SEED, TWO_NODES, padded],
+            Spelling {
+                key: Address,
+                node: 2,
+            },
+        ),
+        (
+            &[SEED, TWO_NODES, coloured],
+            Strange {
+                table: 3,
+                before: 1,
+            },
+        ),
+        (&[SEED, no_port, coloured], Range { key: Port, node: 0 }),
+    ];
+    for (pieces, fault) in cases {
+        assert_eq!(rt; refusal(rt.alloc(), pieces)?, Some(fault));
+    }
     Ok(())
 }

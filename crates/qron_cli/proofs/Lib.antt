@@ -1,2 +1,7 @@
 pub mod Serving
-pub mod Words
+pub mod Asking
+pub mod Answering
+pub mod Seating
+pub mod LineLemmas
+pub mod Talks
+pub mod Programs

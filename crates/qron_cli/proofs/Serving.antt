@@ -19,16 +19,14 @@ use Rattle.cqc_session.specs.Session.{EndCause}
 use Rattle.factored_core.specs.Core.{Journal}
 use Rattle.cqc_session.specs.State.{State, begun}
 use Rattle.cqc_session.specs.Serving.{Served, WordedAfter}
-use Rattle.qron_cli.specs.Pipe.{node_shape, pipe_connection, pipe_journal, journal_capacity}
-use Rattle.qron_cli.specs.declared.status.Status.{Status}
-use Rattle.qron_cli.specs.Statuses.{status_of}
-use Rattle.qron_cli.specs.Program.{Seen, PipeServed, PipeAnswered, pipe_setting, pipe_actor, read_limit}
+use Rattle.qron_cli.specs.Pipe.{pipe_connection, pipe_setting, pipe_actor, read_limit, PipeServed}
+use Rattle.qron_cli.specs.Seen.{Seen}
 
 abbrev nobody : Option Call
 nobody = None
 
-module _ (words : ℕ → ℕ) (rest : Option (List ℕ)) (read written : List ℕ) (entries : List Entry) (ending : Ending)
-    (few : length entries ≤ journal_capacity) (speaks : Speaks (pipe_setting rest entries) read entries written ending) where
+module _ (shape : Shape) (capacity : ℕ) (words : ℕ → ℕ) (rest : Option (List ℕ)) (read written : List ℕ) (entries : List Entry) (ending : Ending)
+    (few : length entries ≤ capacity) (speaks : Speaks (pipe_setting capacity rest entries) read entries written ending) where
   abbrev said : Said
   said = walk pipe_connection (messages read) (replies_of entries)
 
@@ -36,38 +34,38 @@ module _ (words : ℕ → ℕ) (rest : Option (List ℕ)) (read written : List �
   actor = pipe_actor words read
 
   own_is : own actor entries ≡ entries
-  own_is = own_front node_shape journal_capacity actor entries refl few (due_list said.due) speaks.asked entries [] (append-nil entries)
+  own_is = own_front shape capacity actor entries refl few (due_list said.due) speaks.asked entries [] (append-nil entries)
 
   -- where nothing is due, the turn adds nothing
-  idle : said.due ≡ None → turn_call journal_capacity actor entries ≡ None
+  idle : said.due ≡ None → turn_call capacity actor entries ≡ None
   idle none =
-      ap (λ (o : Option Call). if nat_lt (length entries) journal_capacity && fits_room None (said_by actor entries).text then o else None)
+      ap (λ (o : Option Call). if nat_lt (length entries) capacity && fits_room None (said_by actor entries).text then o else None)
       (ap (λ (es : List Entry). (walk pipe_connection (messages read) (replies_of es)).due) own_is ∙ none)
-      ∙ either (nat_lt (length entries) journal_capacity && fits_room None (said_by actor entries).text)
+      ∙ either (nat_lt (length entries) capacity && fits_room None (said_by actor entries).text)
     where
       either : (b : Bool) → (if b then nobody else nobody) ≡ None
       either true = refl
       either false = refl
 
-  last_by : (e : Ending) → EndsAs (pipe_setting rest entries) read entries said written e → e ≢ WriteFault → turn_call journal_capacity actor entries ≡ None
+  last_by : (e : Ending) → EndsAs (pipe_setting capacity rest entries) read entries said written e → e ≢ WriteFault → turn_call capacity actor entries ≡ None
   last_by Clean ends other = idle ends.0
   last_by (Cut have need) ends other = idle ends.0
   last_by ReadFault ends other = idle ends.0
   last_by (Spent bytes) ends other = idle ends.0
-  last_by (Full count) ends other = full journal_capacity actor entries (omega (arith, ends.1))
+  last_by (Full count) ends other = full capacity actor entries (omega (arith, ends.1))
   last_by WriteFault ends other = absurd (other refl)
 
-  last_turn : ending ≢ WriteFault → turn_call journal_capacity actor entries ≡ None
+  last_turn : ending ≢ WriteFault → turn_call capacity actor entries ≡ None
   last_turn other = last_by ending speaks.ends other
 
 -- what a session over the core did
-served_pipe : (words : ℕ → ℕ) (old new : Seen) (after : List Entry) (ending : Ending)
-    → Served pipe_connection read_limit old.left new.left old.held new.held [] after (length after) journal_capacity ending
+served_pipe : (shape : Shape) (capacity : ℕ) (words : ℕ → ℕ) (old new : Seen) (after : List Entry) (ending : Ending)
+    → Served pipe_connection read_limit old.left new.left old.held new.held [] after (length after) capacity ending
     → EndCause ending old.read_faults new.read_faults old.write_faults new.write_faults
-    → IsLegal node_shape after → AreWorded words after → length after ≤ journal_capacity → PipeServed words old new ending
-served_pipe words old new after ending s cause legal worded few =
-    let speaks : Speaks (pipe_setting new.left after) s.read after s.written ending =
-    subst (λ (es : List Entry). Speaks (pipe_setting new.left after) s.read es s.written ending) (sym s.added) s.speaks in
+    → IsLegal shape after → AreWorded words after → length after ≤ capacity → PipeServed shape capacity words old new ending
+served_pipe shape capacity words old new after ending s cause legal worded few =
+    let speaks : Speaks (pipe_setting capacity new.left after) s.read after s.written ending =
+    subst (λ (es : List Entry). Speaks (pipe_setting capacity new.left after) s.read es s.written ending) (sym s.added) s.speaks in
     record {
       read = s.read;
       written = s.written;
@@ -77,8 +75,8 @@ served_pipe words old new after ending s cause legal worded few =
       was_written = s.gave;
       cause = cause;
       speaks = speaks;
-      turns = spoken_entries_are_turns node_shape journal_capacity (pipe_actor words s.read) after _ refl few speaks.asked legal worded;
-      last = last_turn words new.left s.read s.written after ending few speaks;
+      turns = spoken_entries_are_turns shape capacity (pipe_actor words s.read) after _ refl few speaks.asked legal worded;
+      last = last_turn shape capacity words new.left s.read s.written after ending few speaks;
       legal = legal;
       worded = worded;
     }
@@ -89,30 +87,18 @@ worded_alone words after taken w = subst (AreWorded words) (sym w.added) w.worde
 
 -- the same of the journal that it began with, and of the session
 pub journal_served : (f : ℕ → ℕ → ℕ → ℕ) (old new : Seen) (before after : Journal) (s : State) (ending : Ending) (taken : ℕ)
-    → before ≡ pipe_journal [] → s ≡ begun pipe_connection read_limit
+    → before.entries ≡ [] → s ≡ begun pipe_connection read_limit
     → Served s.connection s.cap old.left new.left old.held new.held before.entries after.entries (length after.entries) before.capacity ending
     → EndCause ending old.read_faults new.read_faults old.write_faults new.write_faults
     → WordedAfter (λ k. f s.connection.seat s.connection.serial k) before.entries after.entries taken
     → after ≡ record before { entries = after.entries } → IsLegal after.shape after.entries → length after.entries ≤ after.capacity
-    → PipeServed (λ k. f 0 0 k) old new ending
+    → PipeServed before.shape before.capacity (λ k. f 0 0 k) old new ending
 journal_served f old new before after s ending taken empty fresh served cause worded stays legal few =
-    let is : after ≡ pipe_journal after.entries = stays ∙ ap (λ (j : Journal). record j { entries = after.entries }) empty in
     let by_session = subst (λ (t : State). Served t.connection t.cap old.left new.left old.held new.held before.entries after.entries (length after.entries) before.capacity ending) fresh served in
-    let by_journal = subst (λ (j : Journal). Served pipe_connection read_limit old.left new.left old.held new.held j.entries after.entries (length after.entries) j.capacity ending) empty by_session in
+    let by_journal = subst (λ (es : List Entry). Served pipe_connection read_limit old.left new.left old.held new.held es after.entries (length after.entries) before.capacity ending) empty by_session in
     let words_by_session = subst (λ (t : State). WordedAfter (λ k. f t.connection.seat t.connection.serial k) before.entries after.entries taken) fresh worded in
-    let words_by_journal = subst (λ (j : Journal). WordedAfter (λ k. f 0 0 k) j.entries after.entries taken) empty words_by_session in
-    served_pipe (λ k. f 0 0 k) old new after.entries ending by_journal cause
-    (subst (λ (x : Shape). IsLegal x after.entries) (ap Journal.shape is) legal)
+    let words_by_journal = subst (λ (es : List Entry). WordedAfter (λ k. f 0 0 k) es after.entries taken) empty words_by_session in
+    served_pipe before.shape before.capacity (λ k. f 0 0 k) old new after.entries ending by_journal cause
+    (subst (λ (x : Shape). IsLegal x after.entries) (ap Journal.shape stays) legal)
     (worded_alone (λ k. f 0 0 k) after.entries taken words_by_journal)
-    (subst (λ n. length after.entries ≤ n) (ap Journal.capacity is) few)
-
--- the same for the words of another key, and for the pipe as the house has it
-pub answered : (f : List ℕ → ℕ → ℕ) (key asked : List ℕ) (old new old' new' : Seen) (ending : Ending) (status : Status)
-    → PipeServed (f key) old new ending → key ≡ asked → old ≡ old' → new ≡ new' → status ≡ status_of ending
-    → PipeAnswered (f asked) old' new' status
-answered f key asked old new old' new' ending status served e a b is = (
-  ending,
-  subst (λ (x : List ℕ). PipeServed (f x) old' new' ending) e
-      (subst (λ (x : Seen). PipeServed (f key) x new' ending) a (subst (λ (x : Seen). PipeServed (f key) old x ending) b served)),
-  is,
-)
+    (subst (λ n. length after.entries ≤ n) (ap Journal.capacity stays) few)

@@ -1,3 +1,11 @@
-pub mod Pipe
+pub mod House
 pub mod Statuses
+pub mod Seen
+pub mod Files
+pub mod Stops
+pub mod Pipe
+pub mod Seats
+pub mod Lines
+pub mod Replay
+pub mod Talk
 pub mod Program

@@ -1,63 +1,50 @@
--- What the program does: its words, and how the pipe is served.
-use Rattle.std.specs.Prelude.{◌≡◌, ◌≢◌, ℕ, ◌≤◌, ◌^◌, List, [], ◌∷◌, length, replicate, codes, Option, None}
-use Rattle.network_model.specs.History.{IsLegal}
-use Rattle.network_model.specs.declared.Entry.{Entry}
-use Rattle.session_model.specs.declared.Ending.{Ending}
-use Rattle.session_model.specs.declared.Ending.TheVariants.{WriteFault}
-use Rattle.session_model.specs.Speaks.{Setting, Speaks}
-use Rattle.session_model.specs.Turns.{Actor, AreTurns, turn_call}
-use Rattle.session_model.specs.Worded.{AreWorded}
-use Rattle.qron_link.specs.Outside.{WasRead, WasWritten}
-use Rattle.cqc_session.specs.Session.{EndCause}
+-- What the program does, by the line that its words are.
+use Rattle.std.specs.Prelude.{◌≡◌, ◌⊎◌, ℕ, List, Option, None, Some, option_and_then, IfSome}
+use Rattle.node_table.specs.Plain.{plain_settings}
+use Rattle.word_lines.specs.Lines.{Line, pipe, pipe_with, replay, talk, drill, line_of}
+use Rattle.qron_cli.specs.House.{Facts, Allows, asks_of}
+use Rattle.qron_cli.specs.Pipe.{AllWords, PipeRan, PipeWithRan}
+use Rattle.qron_cli.specs.Replay.{ReplayFilesRan}
+use Rattle.qron_cli.specs.Seen.{Seen}
+use Rattle.qron_cli.specs.Talk.{TalkRan}
 use Rattle.qron_cli.specs.declared.status.Status.{Status}
-use Rattle.qron_cli.specs.Statuses.{status_of}
-use Rattle.qron_cli.specs.Pipe.{node_shape, pipe_connection, journal_capacity}
+use Rattle.qron_cli.specs.declared.status.Status.TheVariants.{Done, Refused, Words, Memory, Fault, Unfinished}
 
--- the words after the program's name are `pipe` alone
-abbrev pub AskPipe : List (List ℕ) → Type 0
-AskPipe words = words ≡ codes "pipe" ∷ []
+-- the lines that the program takes
+abbrev pub taken : Line → Option Line
+taken pipe = Some pipe
+taken (pipe_with settings) = Some (pipe_with settings)
+taken (replay settings schedule) = Some (replay settings schedule)
+taken (drill rounds) = None
+taken (talk place script) = Some (talk place script)
 
--- the plain seed
-abbrev pub plain_seed : List ℕ
-plain_seed = replicate 32 0
+-- what the words ask for, if they are a line that the program takes
+abbrev pub asked_by : List (List ℕ) → Option Line
+asked_by words = option_and_then taken (line_of words)
 
--- the most bytes that are read on a connection
-abbrev pub read_limit : ℕ
-read_limit = 2 ^ 32
+-- what a line does, with the words of all dice, the link that is handed out, as it is first and last, and what the
+-- house and its pipe tell before and after it
+abbrev pub Ran : AllWords → (Seen → Seen → Type 0) → Line → Facts → Facts → Seen → Seen → Status → Type 0
+Ran word handed pipe before after old new status = PipeRan word (plain_settings 1) before after old new status
+Ran word handed (pipe_with settings) before after old new status = PipeWithRan word settings before after old new status
+Ran word handed (replay settings schedule) before after old new status = ReplayFilesRan word settings schedule before after old new status
+Ran word handed (drill rounds) before after old new status = ⊥
+Ran word handed (talk place script) before after old new status = TalkRan handed script before after old new status
 
--- where the pipe's session is: what it has left, and the entries so far
-abbrev pub pipe_setting : Option (List ℕ) → List Entry → Setting
-pipe_setting left entries = record { connection = pipe_connection; cap = read_limit; left = left; entries = length entries; capacity = journal_capacity }
+-- the words are a line, which is done; or they are none, and nothing is done
+abbrev pub Answered : AllWords → (Seen → Seen → Type 0) → Option Line → Facts → Facts → Seen → Seen → Status → Type 0
+Answered word handed (Some line) before after old new status = Ran word handed line before after old new status
+Answered word handed None before after old new status = ((status ≡ Words) ⊎ (status ≡ Memory)) × (new ≡ old)
 
--- the pipe's connection alone, with these bytes to say and these words to draw
-abbrev pub pipe_actor : (ℕ → ℕ) → List ℕ → Actor
-pipe_actor words read = record { connection = pipe_connection; words = words; input = read; room = None }
+-- the asks of the line, if there is one, are allowed
+abbrev pub MayAsk : Option Line → Facts → Type 0
+MayAsk line facts = IfSome line (λ l. Allows (asks_of l) facts)
 
--- what is seen of a pipe: the bytes that are left and those that were written, where they are told, and how often
--- reads and writes have failed
-pub record Seen : Type 0 where
-  pub left : Option (List ℕ)
-  pub held : Option (List ℕ)
-  pub read_faults : ℕ
-  pub write_faults : ℕ
-
--- The pipe was served: the bytes read, the entries made, the bytes written and the ending are those of one
--- connection that takes turns alone, from the empty history; its words are those of the dice, and it ends
--- before its last turn only where the pipe took no more. A fault ends it only where its own side failed once more.
-pub record PipeServed (words : ℕ → ℕ) (old new : Seen) (ending : Ending) : Type 0 where
-  pub read : List ℕ
-  pub written : List ℕ
-  pub entries : List Entry
-  pub was_read : WasRead old.left read new.left
-  pub few : length read ≤ read_limit
-  pub was_written : WasWritten old.held written new.held
-  pub cause : EndCause ending old.read_faults new.read_faults old.write_faults new.write_faults
-  pub speaks : Speaks (pipe_setting new.left entries) read entries written ending
-  pub turns : AreTurns node_shape journal_capacity (replicate (length entries) (pipe_actor words read)) [] entries
-  pub last : ending ≢ WriteFault → turn_call journal_capacity (pipe_actor words read) entries ≡ None
-  pub legal : IsLegal node_shape entries
-  pub worded : AreWorded words entries
-
--- the pipe was served, and the status is that of the ending
-abbrev pub PipeAnswered : (ℕ → ℕ) → Seen → Seen → Status → Type 0
-PipeAnswered words old new status = (ending : Ending) × PipeServed words old new ending × (status ≡ status_of ending)
+-- with this status nothing was read from the pipe, and nothing written
+abbrev pub IsIdle : Status → Type 0
+IsIdle Refused = Unit {0}
+IsIdle Words = Unit {0}
+IsIdle Memory = Unit {0}
+IsIdle Done = ⊥
+IsIdle Fault = ⊥
+IsIdle Unfinished = ⊥

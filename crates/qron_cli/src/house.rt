@@ -1,10 +1,25 @@
 // What the program is handed of the outside.
-ghost use Rattle.std.specs.Prelude.{◌≡◌, ℕ, List, IfOk};
+ghost use Rattle.std.specs.Prelude.{◌≡◌, ℕ, List, [], ◌∷◌, Option, IfOk};
 ghost use Rattle.std.specs.Borrow.{sem, Lends};
+ghost use Rattle.qron_cli.specs.House.{Facts, Allows, ask_file, ask_link, WasAsked, FileGave, LinkGave};
 
-use crate::status::Status;
+use crate::complaint::Complaint;
+use network_model::Place;
 use qron_link::{Dice, Link};
 use std::alloc::AllocError;
+
+/// What came of asking for a file.
+#[derive(Drop)]
+pub enum FileRead {
+    /// Its bytes, of which there are at most 16,777,216.
+    Bytes(Vec<u8>),
+    /// It has more bytes than that.
+    TooLong,
+    /// It could not be read.
+    Failed,
+    /// Memory was short.
+    OutOfMemory,
+}
 
 /// What the program is handed of the outside.
 pub trait House {
@@ -12,14 +27,19 @@ pub trait House {
 
     type Dice: Dice + Drop;
 
+    type Link: Link + Drop;
+
     /// The pipe.
     ghost pipe_of: { Self → Self.Pipe };
 
     /// The house with another pipe.
     ghost with_pipe: { Self → Self.Pipe → Self };
 
-    /// The key of the dice for each seed.
-    ghost keys: { Self → List ℕ → List ℕ };
+    /// What it tells beside its pipe.
+    ghost facts: { Self → Facts };
+
+    /// The links to places that it has handed out so far, where it tells them.
+    ghost handed: { Self → Option (List Self.Link) };
 
     /// Lends the pipe, which is afterwards as the borrower left it. Nothing else changes.
     fn pipe(&mut self) -> &mut Self::Pipe
@@ -28,16 +48,35 @@ pub trait House {
 
     /// Dice with the key of a seed.
     fn dice(&mut self, seed: &[u8; 32]) -> Result<Self::Dice, AllocError>
-        ensures key { IfOk result (λ dice. Self.Dice.key dice ≡ keys self.old seed.now) }
-        ensures keys { keys self.new ≡ keys self.old }
+        ensures key { IfOk result (λ dice. Self.Dice.key dice ≡ (facts self.old).keys seed.now) }
+        ensures facts { facts self.new ≡ facts self.old }
+        ensures handed { handed self.new ≡ handed self.old }
         ensures pipe { pipe_of self.new ≡ pipe_of self.old };
 
-    /// Writes what is said of a status, if anything, as a line to standard error. Nothing is promised of it.
-    fn complain(&mut self, status: Status)
-        ensures keys { keys self.new ≡ keys self.old }
+    /// The bytes of a file, which must be the next ask that is allowed.
+    fn file(&mut self, name: &str) -> FileRead
+        requires { Allows (ask_file name.now ∷ []) (facts self.old) }
+        ensures read { FileGave result name.now (facts self.old) (facts self.new) }
+        ensures asked { WasAsked (facts self.old) (facts self.new) }
+        ensures handed { handed self.new ≡ handed self.old }
+        ensures pipe { pipe_of self.new ≡ pipe_of self.old };
+
+    /// A link to a place, which must be the next ask that is allowed. There is none where the house has a fault.
+    fn connect(&mut self, place: Place) -> Option<Self::Link>
+        requires { Allows (ask_link place ∷ []) (facts self.old) }
+        ensures link { LinkGave result (facts self.old) (facts self.new) (handed self.old) (handed self.new) }
+        ensures asked { WasAsked (facts self.old) (facts self.new) }
+        ensures pipe { pipe_of self.new ≡ pipe_of self.old };
+
+    /// Writes a complaint to standard error. Nothing is promised of what it says.
+    fn complain(&mut self, complaint: &Complaint)
+        ensures facts { facts self.new ≡ facts self.old }
+        ensures handed { handed self.new ≡ handed self.old }
         ensures pipe { pipe_of self.new ≡ pipe_of self.old };
 
     ghost pipe_is_put: { (house : Self) (pipe : Self.Pipe) → pipe_of (with_pipe house pipe) ≡ pipe };
 
-    ghost keys_stay: { (house : Self) (pipe : Self.Pipe) → keys (with_pipe house pipe) ≡ keys house };
+    ghost facts_stay: { (house : Self) (pipe : Self.Pipe) → facts (with_pipe house pipe) ≡ facts house };
+
+    ghost handed_stay: { (house : Self) (pipe : Self.Pipe) → handed (with_pipe house pipe) ≡ handed house };
 }

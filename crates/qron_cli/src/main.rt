@@ -3,18 +3,31 @@
 
 #[cfg(test)]
 mod circuit_tests;
+#[cfg(test)]
+mod command_tests;
+mod complaint;
+mod files;
 mod house;
 #[cfg(test)]
 mod mem_house;
-mod pipe_network;
+mod pipe_command;
+mod printing;
 mod program;
 mod real;
 #[cfg(test)]
 mod real_tests;
+mod replay_command;
+mod seats;
+#[cfg(test)]
+mod settings_tests;
 mod status;
+mod talk_command;
+#[cfg(test)]
+mod talk_tests;
 #[cfg(test)]
 mod tests;
 
+use crate::complaint::Complaint;
 use crate::real::{RealHouse, complain};
 use crate::status::Status;
 use qron_link::StdPipe;
@@ -27,9 +40,9 @@ fn main(rt: HostRuntime) -> ExitCode {
             let status = program::run(rt.alloc(), &words, &mut house);
             house.finish(status)
         }
-        Err(status) => {
-            complain(&mut rt.stderr(), status);
-            status
+        Err(complaint) => {
+            complain(&mut rt.stderr(), &complaint);
+            Status::of(&Err(complaint))
         }
     };
     ExitCode::from(status.code())
@@ -37,19 +50,19 @@ fn main(rt: HostRuntime) -> ExitCode {
 
 // The words after the program's name, and the real outside.
 #[derive(Drop)]
-struct Outside {
+struct Outside<'a> {
     words: Vec<String>,
-    house: RealHouse,
+    house: RealHouse<'a>,
 }
 
-fn open(rt: &HostRuntime) -> Result<Outside, Status> {
+fn open(rt: &HostRuntime) -> Result<Outside<'_>, Complaint> {
     let mut words = Vec::new(rt.alloc());
     for word in env::args(rt)?.skip(1) {
         if words.push(word).is_err() {
-            return Err(Status::Memory);
+            return Err(Complaint::Memory);
         }
     }
     let pipe = StdPipe::new(rt.alloc(), rt.stdin(), rt.stdout())?;
-    let house = RealHouse::new(pipe, rt.stderr());
+    let house = RealHouse::new(rt.alloc(), rt, pipe, rt.stderr());
     Ok(Outside { words, house })
 }

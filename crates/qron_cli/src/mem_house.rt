@@ -1,12 +1,17 @@
 // The program over a link in memory, with given bytes, words and faults.
-ghost use Rattle.std.specs.Prelude.{◌≡◌, refl};
+ghost use Rattle.std.specs.Prelude.{◌≡◌, None, Some, option_map, string_bytes, refl};
+ghost use Rattle.std.specs.List.{find};
+ghost use Rattle.std.specs.Str.{bytes_eq};
 
-use crate::house::House;
+use crate::complaint::Complaint;
+use crate::house::{FileRead, House};
 use crate::program::run;
 use crate::status::Status;
 use hex::{decode, encode};
-use qron_link::{ListDice, MemLink};
+use network_model::Place;
+use qron_link::{ChaChaDice, Dice, Door, Knock, ListDice, MemDoor, MemLink};
 use std::alloc::{AllocError, Global};
+use std::marker::PhantomData;
 use std::test::Fail;
 
 /// The largest word.
@@ -15,47 +20,131 @@ pub const MOST: u64 = 18_446_744_073_709_551_615;
 // The most bytes that are written.
 const ROOM: u32 = 256;
 
-/// A house in memory.
+// The most bytes of a file.
+const FILE_LIMIT: usize = 16_777_216;
+
+/// A file in memory.
 #[derive(Drop)]
-struct MemHouse {
-    pipe: MemLink,
-    words: Vec<u64>,
-    said: Status,
+pub struct MemFile {
+    pub name: String,
+    pub bytes: Vec<u8>,
 }
 
-impl House for MemHouse {
+// The file of a name, if there is one.
+fn found<'a>(files: &'a [MemFile], name: &str) -> Option<&'a MemFile>
+    ensures { option_map (λ file. file.now) result ≡ find (λ file. bytes_eq (string_bytes file.name) name.now) files.now }
+{
+    files.iter().find(|file| file.name.as_str() == name)
+}
+
+/// Dice that a house in memory hands out.
+pub trait Rolled: Dice + Drop {
+    ghost use Rattle.std.specs.Prelude.{ℕ, List, IfOk, ◌≡◌};
+
+    /// The key, by the words of the house and a seed.
+    ghost key_by: { List ℕ → List ℕ → List ℕ };
+
+    /// New dice with that key.
+    fn roll(words: &Vec<u64>, seed: &[u8; 32]) -> Result<Self, AllocError>
+        ensures { IfOk result (λ dice. Self.key dice ≡ key_by words.now.items seed.now) };
+}
+
+impl Rolled for ListDice {
+    ghost key_by = { λ words _. words };
+
+    fn roll(words: &Vec<u64>, _seed: &[u8; 32]) -> Result<ListDice, AllocError> {
+        Ok(ListDice::new(words.clone()?))
+    }
+}
+
+impl Rolled for ChaChaDice {
+    ghost key_by = { λ _ seed. seed };
+
+    fn roll(_words: &Vec<u64>, seed: &[u8; 32]) -> Result<ChaChaDice, AllocError> {
+        Ok(ChaChaDice::new(*seed))
+    }
+}
+
+/// A house in memory. It tells its files, and the links of its door.
+#[derive(Drop)]
+struct MemHouse<D: Rolled> {
+    pipe: MemLink,
+    words: Vec<u64>,
+    files: Vec<MemFile>,
+    door: MemDoor,
+    faults: u64,
+    said: Option<Complaint>,
+    dice: PhantomData<D>,
+}
+
+impl<D: Rolled> House for MemHouse<D> {
     type Pipe = MemLink;
 
-    type Dice = ListDice;
+    type Dice = D;
+
+    type Link = MemLink;
 
     ghost pipe_of = { λ h. h.pipe };
 
     ghost with_pipe = { λ h p. record h { pipe = p } };
 
-    ghost keys = { λ h _. h.words.items };
+    ghost facts = { λ h. record {
+      keys = λ seed. D.key_by h.words.items seed;
+      files = Some (λ name. option_map (λ file. file.bytes.items) (find (λ file. bytes_eq (string_bytes file.name) name) h.files.items));
+      asks = None;
+      faults = h.faults;
+    } };
+
+    ghost handed = { λ h. Some h.door.handed };
 
     ghost pipe_is_put = { λ _ _. refl };
 
-    ghost keys_stay = { λ _ _. refl };
+    ghost facts_stay = { λ _ _. refl };
+
+    ghost handed_stay = { λ _ _. refl };
 
     fn pipe(&mut self) -> &mut MemLink {
         &mut self.pipe
     }
 
-    fn dice(&mut self, _seed: &[u8; 32]) -> Result<ListDice, AllocError> {
-        Ok(ListDice::new(self.words.clone()?))
+    fn dice(&mut self, seed: &[u8; 32]) -> Result<D, AllocError> {
+        D::roll(&self.words, seed)
     }
 
-    fn complain(&mut self, status: Status) {
-        self.said = status;
+    fn file(&mut self, name: &str) -> FileRead {
+        let Some(file) = found(&self.files, name) else {
+            self.faults = self.faults.saturating_add(1);
+            return FileRead::Failed;
+        };
+        if file.bytes.len() > FILE_LIMIT {
+            return FileRead::TooLong;
+        }
+        match file.bytes.clone() {
+            Ok(bytes) => FileRead::Bytes(bytes),
+            Err(_) => FileRead::OutOfMemory,
+        }
+    }
+
+    fn connect(&mut self, _place: Place) -> Option<MemLink> {
+        let Knock::Link(link) = self.door.next() else {
+            self.faults = self.faults.saturating_add(1);
+            return None;
+        };
+        Some(link)
+    }
+
+    fn complain(&mut self, complaint: &Complaint) {
+        self.said = Some(*complaint);
     }
 }
 
-/// What the program is given: its arguments, its dice's words, the most bytes of a read, and the numbers of a read and of a write
-/// that fail.
+/// What the program is given: its arguments, the names and texts of files, the bytes that links hold, its dice's words,
+/// the most bytes of a read, and the numbers of a read and of a write that fail.
 #[derive(Clone, Copy)]
 pub struct Given<'a> {
     pub args: &'a [&'a str],
+    pub files: &'a [(&'a str, &'a str)],
+    pub links: &'a [&'a [u8]],
     pub words: [u64; 2],
     pub piece: u32,
     pub bad_read: Option<u32>,
@@ -66,6 +155,8 @@ pub struct Given<'a> {
 pub fn faultless(words: [u64; 2], piece: u32) -> Given<'static> {
     Given {
         args: &["pipe"],
+        files: &[],
+        links: &[],
         words,
         piece,
         bad_read: None,
@@ -73,19 +164,29 @@ pub fn faultless(words: [u64; 2], piece: u32) -> Given<'static> {
     }
 }
 
-/// How the program ended, for what status it complained, and what it wrote, in hexadecimal.
+/// How the program ended, what it complained of, and what it wrote, in hexadecimal.
 #[derive(PartialEq, Debug, Drop)]
 pub struct Answer {
     pub status: Status,
-    pub said: Status,
+    pub said: Option<Complaint>,
     pub output: String,
+}
+
+// What is said where the program ends with a status, for which no file was refused.
+fn said_of(status: Status) -> Option<Complaint> {
+    match status {
+        Status::Words => Some(Complaint::Words),
+        Status::Memory => Some(Complaint::Memory),
+        Status::Fault => Some(Complaint::Fault),
+        Status::Done | Status::Refused | Status::Unfinished => None,
+    }
 }
 
 /// It ended with this status, for which it complained, and wrote this.
 pub fn ended(alloc: Global, status: Status, output: &str) -> Result<Answer, Fail> {
     Ok(Answer {
         status,
-        said: status,
+        said: said_of(status),
         output: String::from_str(alloc, output)?,
     })
 }
@@ -96,8 +197,37 @@ pub fn done(alloc: Global, pieces: &[(&str, u32)]) -> Result<Answer, Fail> {
     ended(alloc, Status::Done, output.as_str())
 }
 
-/// What the program does with this input.
-pub fn answer_with(alloc: Global, input: Vec<u8>, given: Given<'_>) -> Result<Answer, Fail> {
+// Files with these names and texts.
+fn mem_files(alloc: Global, texts: &[(&str, &str)]) -> Result<Vec<MemFile>, Fail> {
+    let mut files = Vec::new(alloc);
+    for &(name, text) in texts {
+        let name = String::from_str(alloc, name)?;
+        let bytes = text.as_bytes().to_vec(alloc)?;
+        files.push(MemFile { name, bytes })?;
+    }
+    Ok(files)
+}
+
+// Links that hold these bytes.
+fn mem_links(alloc: Global, inputs: &[&[u8]]) -> Result<Vec<MemLink>, Fail> {
+    let mut links = Vec::new(alloc);
+    for input in inputs {
+        let bytes = input.to_vec(alloc)?;
+        let link = MemLink::new(alloc, bytes, 64, ROOM, Vec::new(alloc), Vec::new(alloc))?;
+        links.push(link)?;
+    }
+    Ok(links)
+}
+
+// How the program ended, and the house that it was run in.
+#[derive(Drop)]
+struct Run<D: Rolled> {
+    status: Status,
+    house: MemHouse<D>,
+}
+
+// Runs the program with this input.
+fn run_with<D: Rolled>(alloc: Global, input: Vec<u8>, given: Given<'_>) -> Result<Run<D>, Fail> {
     let mut bad_reads = Vec::new(alloc);
     if let Some(number) = given.bad_read {
         bad_reads.push(number)?;
@@ -117,17 +247,46 @@ pub fn answer_with(alloc: Global, input: Vec<u8>, given: Given<'_>) -> Result<An
     let mut house = MemHouse {
         pipe,
         words: Vec::from_array(alloc, given.words)?,
-        said: Status::Done,
+        files: mem_files(alloc, given.files)?,
+        door: MemDoor::new(mem_links(alloc, given.links)?, Vec::new(alloc)),
+        faults: 0,
+        said: None,
+        dice: PhantomData,
     };
     let mut words = Vec::new(alloc);
     for word in given.args {
         words.push(String::from_str(alloc, word)?)?;
     }
     let status = run(alloc, &words, &mut house);
+    Ok(Run { status, house })
+}
+
+/// What the program does with this input.
+pub fn answer_with(alloc: Global, input: Vec<u8>, given: Given<'_>) -> Result<Answer, Fail> {
+    let Run { status, house } = run_with::<ListDice>(alloc, input, given)?;
     Ok(Answer {
         status,
         said: house.said,
         output: encode(alloc, house.pipe.written())?,
+    })
+}
+
+/// How the program ended, what it complained of, and the text that it printed.
+#[derive(Drop)]
+pub struct Printed {
+    pub status: Status,
+    pub said: Option<Complaint>,
+    pub text: String,
+}
+
+/// What the program prints without input, with dice by ChaCha20.
+pub fn printed_with(alloc: Global, given: Given<'_>) -> Result<Printed, Fail> {
+    let Run { status, house } = run_with::<ChaChaDice>(alloc, Vec::new(alloc), given)?;
+    let text = str::from_utf8(house.pipe.written())?;
+    Ok(Printed {
+        status,
+        said: house.said,
+        text: String::from_str(alloc, text)?,
     })
 }
 

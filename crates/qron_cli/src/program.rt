@@ -1,117 +1,82 @@
 // The top call.
-ghost use Rattle.std.specs.Prelude.{◌≡◌, ◌≢◌, ◌↔◌, IsTrue, IfOk, map, string_bytes, []};
-ghost use Rattle.cqc_session.specs.State.{begun};
-ghost use Rattle.qron_cli.specs.Pipe.{pipe_connection, pipe_journal};
-ghost use Rattle.qron_cli.specs.Program.{AskPipe, Seen, PipeServed, PipeAnswered, plain_seed, read_limit};
+ghost use Rattle.std.specs.Prelude.{◌≡◌, ◌≢◌, ◌↔◌, None, map, string_bytes, IfSome};
+ghost use Rattle.word_lines.specs.Views.{asked_line};
+ghost use Rattle.qron_cli.specs.Program.{taken, asked_by, Ran, Answered, MayAsk, IsIdle};
+ghost use Rattle.qron_cli.specs.Seen.{Seen};
+ghost use Rattle.qron_cli.specs.Statuses.{status_of};
+ghost use Rattle.qron_cli.specs.Talk.{Handed};
 
+use crate::complaint::Complaint;
 use crate::house::House;
-use crate::pipe_network::{CAPACITY, shape};
-use crate::status::Status;
-use cqc_session::{Session, serve_solo};
-use factored_core::Solo;
-use qron_link::{Dice, Link};
-use session_model::Ending;
-use std::alloc::{AllocError, Global};
+use crate::pipe_command::{run_pipe, run_pipe_with};
+use crate::replay_command::run_replay;
+use crate::status::{Outcome, Status};
+use crate::talk_command::run_talk;
+use node_table::plain_settings;
+use std::alloc::Global;
+use word_lines::{Asked, read_words};
 
-/// The most bytes that are read on a connection.
-const READ_LIMIT: u64 = 4_294_967_296;
-
-// The seed of the plain settings.
-const PLAIN_SEED: [u8; 32] = [0; 32];
-
-// Whether the words are `pipe` alone.
-fn asks_pipe(words: &[String]) -> bool
-    ensures { IsTrue result ↔ AskPipe (map string_bytes words.now) }
+// Does what is asked for.
+fn run_asked<H: House>(alloc: Global, asked: Asked<'_>, house: &mut H) -> Outcome
+    requires { MayAsk (taken (asked_line asked)) (H.facts house.old) }
+    ensures { let seen : H.Pipe → Seen = λ pipe. record { left = H.Pipe.Source.left pipe; held = H.Pipe.Sink.held pipe; read_faults = H.Pipe.Source.read_faults pipe; write_faults = H.Pipe.Sink.write_faults pipe } in
+        let seen_link : H.Link → Seen = λ link. record { left = H.Link.Source.left link; held = H.Link.Sink.held link; read_faults = H.Link.Source.read_faults link; write_faults = H.Link.Sink.write_faults link } in
+        let handed : Seen → Seen → Type 0 = Handed seen_link H.Link.was_led (H.handed house.old) (H.handed house.new) in
+        Answered H.Dice.word handed (taken (asked_line asked.entry)) (H.facts house.old) (H.facts house.new) (seen (H.pipe_of house.old)) (seen (H.pipe_of house.new)) (status_of result) }
 {
-    words.len() == 1 && words[0].as_str() == "pipe"
+    match asked {
+        Asked::Pipe => run_pipe(alloc, plain_settings(1), house),
+        Asked::PipeWith { settings } => run_pipe_with(alloc, settings, house),
+        Asked::Replay { settings, schedule } => run_replay(alloc, settings, schedule, house),
+        Asked::Talk { place, script } => run_talk(alloc, place, script, house),
+        Asked::Drill { .. } => Err(Complaint::Words),
+    }
 }
 
-// A core without entries, dice and a session that has begun, with all the room that they ever take.
-#[derive(Drop)]
-struct Opened<D: Dice + Drop> {
-    solo: Solo,
-    dice: D,
-    session: Session,
-}
-
-fn open<D: Dice + Drop>(alloc: Global, dice: D) -> Result<Opened<D>, AllocError>
-    ensures core { IfOk result (λ o. o.solo ≡ pipe_journal []) }
-    ensures key { IfOk result (λ o. D.key o.dice ≡ D.key dice) }
-    ensures session { IfOk result (λ o. o.session ≡ begun pipe_connection read_limit) }
+// Does what the words ask for.
+fn run_words<H: House>(alloc: Global, words: &[String], house: &mut H) -> Outcome
+    requires { MayAsk (asked_by (map string_bytes words.now)) (H.facts house.old) }
+    ensures { let seen : H.Pipe → Seen = λ pipe. record { left = H.Pipe.Source.left pipe; held = H.Pipe.Sink.held pipe; read_faults = H.Pipe.Source.read_faults pipe; write_faults = H.Pipe.Sink.write_faults pipe } in
+        let seen_link : H.Link → Seen = λ link. record { left = H.Link.Source.left link; held = H.Link.Sink.held link; read_faults = H.Link.Source.read_faults link; write_faults = H.Link.Sink.write_faults link } in
+        let handed : Seen → Seen → Type 0 = Handed seen_link H.Link.was_led (H.handed house.old) (H.handed house.new) in
+        Answered H.Dice.word handed (asked_by (map string_bytes words.now)) (H.facts house.old) (H.facts house.new) (seen (H.pipe_of house.old)) (seen (H.pipe_of house.new)) (status_of result) }
 {
-    let solo = Solo::open(alloc, shape(), CAPACITY)?;
-    let mut session = Session::new(alloc, 0, 0, READ_LIMIT)?;
-    session.begin(0);
-    Ok(Opened {
-        solo,
-        dice,
-        session,
-    })
+    let Some(asked) = read_words(alloc, words)? else {
+        return Err(Complaint::Words);
+    };
+    run_asked(alloc, asked, house)
 }
 
-// The same with the house's dice of the plain seed.
-fn open_with<H: House>(alloc: Global, house: &mut H) -> Result<Opened<H::Dice>, AllocError>
-    ensures core { IfOk result (λ o. o.solo ≡ pipe_journal []) }
-    ensures key { IfOk result (λ o. H.Dice.key o.dice ≡ H.keys house.old plain_seed) }
-    ensures session { IfOk result (λ o. o.session ≡ begun pipe_connection read_limit) }
+// Says what an outcome complains of, if it does.
+fn say<H: House>(house: &mut H, outcome: &Outcome)
+    ensures facts { H.facts house.new ≡ H.facts house.old }
+    ensures handed { H.handed house.new ≡ H.handed house.old }
     ensures pipe { H.pipe_of house.new ≡ H.pipe_of house.old }
 {
-    let dice = house.dice(&PLAIN_SEED)?;
-    open(alloc, dice)
-}
-
-// Serves a connection over a core without entries.
-fn serve_pipe<L: Link, D: Dice + Drop>(opened: &mut Opened<D>, link: &mut L) -> Ending
-    requires core { opened.old.solo ≡ pipe_journal [] }
-    requires session { opened.old.session ≡ begun pipe_connection read_limit }
-    ensures { let seen : L → Seen = λ link. record { left = L.left link; held = L.held link; read_faults = L.read_faults link; write_faults = L.write_faults link } in
-        PipeServed (λ k. D.word (D.key opened.old.dice) 0 0 k) (seen link.old) (seen link.new) result }
-{
-    let ending = serve_solo(
-        &mut opened.solo,
-        &mut opened.session,
-        link,
-        &mut opened.dice,
-    );
-    // the journal's own contract says that its entries are a legal history
-    let _entries = opened.solo.entries();
-    ending
-}
-
-// Serves one connection on the pipe, over a core of its own. All room is taken before the pipe is touched.
-fn run_pipe<H: House>(alloc: Global, house: &mut H) -> Status
-    ensures words { result ≢ Status.Words }
-    ensures memory { result ≡ Status.Memory → H.pipe_of house.new ≡ H.pipe_of house.old }
-    ensures served { let seen : H.Pipe → Seen = λ pipe. record { left = H.Pipe.Source.left pipe; held = H.Pipe.Sink.held pipe; read_faults = H.Pipe.Source.read_faults pipe; write_faults = H.Pipe.Sink.write_faults pipe } in
-        result ≢ Status.Memory → PipeAnswered (λ k. H.Dice.word (H.keys house.old plain_seed) 0 0 k) (seen (H.pipe_of house.old)) (seen (H.pipe_of house.new)) result }
-{
-    let Ok(mut opened) = open_with(alloc, house) else {
-        return Status::Memory;
-    };
-    let ending = serve_pipe(&mut opened, house.pipe());
-    Status::of_ending(&ending)
+    if let Err(complaint) = outcome {
+        house.complain(complaint);
+    }
 }
 
 /// Does all that the program does, and gives its status.
 pub fn run<H: House>(alloc: Global, words: &[String], house: &mut H) -> Status
-    // The words are no line of the program exactly at status Words, and then the pipe is as it was.
-    ensures words { (result ≡ Status.Words) ↔ ¬ AskPipe (map string_bytes words.now) }
-    ensures asked { result ≢ Status.Words → AskPipe (map string_bytes words.now) }
-    ensures untouched { result ≡ Status.Words → H.pipe_of house.new ≡ H.pipe_of house.old }
+    // What the words ask for is allowed, where the house tells that.
+    requires { MayAsk (asked_by (map string_bytes words.now)) (H.facts house.old) }
 
-    // Where memory was short, the pipe is as it was.
-    ensures memory { result ≡ Status.Memory → H.pipe_of house.new ≡ H.pipe_of house.old }
+    // Unless memory was short, the words are no line of the program exactly at status Words.
+    ensures words { result ≢ Status.Memory → (result ≡ Status.Words) ↔ (asked_by (map string_bytes words.now) ≡ None) }
 
-    // Else the pipe was served: bytes, entries and ending are those of one connection over one legal history.
-    ensures served { let seen : H.Pipe → Seen = λ pipe. record { left = H.Pipe.Source.left pipe; held = H.Pipe.Sink.held pipe; read_faults = H.Pipe.Source.read_faults pipe; write_faults = H.Pipe.Sink.write_faults pipe } in
-        result ≢ Status.Words → result ≢ Status.Memory → PipeAnswered (λ k. H.Dice.word (H.keys house.old plain_seed) 0 0 k)
-        (seen (H.pipe_of house.old)) (seen (H.pipe_of house.new)) result }
+    // Where the words or a file are refused, or memory was short, the pipe is as it was.
+    ensures idle { let seen : H.Pipe → Seen = λ pipe. record { left = H.Pipe.Source.left pipe; held = H.Pipe.Sink.held pipe; read_faults = H.Pipe.Source.read_faults pipe; write_faults = H.Pipe.Sink.write_faults pipe } in
+        IsIdle result → seen (H.pipe_of house.new) ≡ seen (H.pipe_of house.old) }
+
+    // Else the line was done that the words are.
+    ensures ran { let seen : H.Pipe → Seen = λ pipe. record { left = H.Pipe.Source.left pipe; held = H.Pipe.Sink.held pipe; read_faults = H.Pipe.Source.read_faults pipe; write_faults = H.Pipe.Sink.write_faults pipe } in
+        let seen_link : H.Link → Seen = λ link. record { left = H.Link.Source.left link; held = H.Link.Sink.held link; read_faults = H.Link.Source.read_faults link; write_faults = H.Link.Sink.write_faults link } in
+        let handed : Seen → Seen → Type 0 = Handed seen_link H.Link.was_led (H.handed house.old) (H.handed house.new) in
+        IfSome (asked_by (map string_bytes words.now)) (λ line. Ran H.Dice.word handed line (H.facts house.old) (H.facts house.new) (seen (H.pipe_of house.old)) (seen (H.pipe_of house.new)) result) }
 {
-    if !asks_pipe(words) {
-        house.complain(Status::Words);
-        return Status::Words;
-    }
-    let status = run_pipe(alloc, house);
-    house.complain(status);
-    status
+    let outcome = run_words(alloc, words, house);
+    say(house, &outcome);
+    Status::of(&outcome)
 }

@@ -1,26 +1,53 @@
 // The real outside.
-ghost use Rattle.std.specs.Prelude.{◌≡◌, refl};
+ghost use Rattle.std.specs.Prelude.{◌≡◌, ◌≤◌, ℕ, None, refl, IfOk, IfSome, vec_len};
 ghost use Rattle.qron_cli.specs.Statuses.{HasFinished};
 
-use crate::house::House;
+use crate::complaint::Complaint;
+use crate::house::{FileRead, House};
 use crate::status::Status;
-use qron_link::{ChaChaDice, Pipe, Reader, Writer};
-use std::alloc::AllocError;
-use std::io::{Stderr, Stdin, Stdout, Write};
+use network_model::Place;
+use qron_link::{ChaChaDice, Pipe, Reader, TcpLink, Writer};
+use std::alloc::{AllocError, Global};
+use std::fs;
+use std::io::{self, ErrorKind, Read, Stderr, Stdin, Stdout, Write};
+use std::net::{Net, TcpStream};
+use std::rt::Files;
 
-/// Standard input, output and error.
-pub type RealHouse = PipeHouse<Stdin, Stdout, Stderr>;
+/// Standard input, output and error, and the files and sockets of the system.
+pub type RealHouse<'a> = PipeHouse<'a, HostRuntime, Stdin, Stdout, Stderr>;
 
-/// A pipe, where complaints go, and dice by ChaCha20.
+/// A pipe, where complaints go, files and sockets of a system, and dice by ChaCha20. It tells no file, no ask and no link.
 #[derive(Drop)]
-pub struct PipeHouse<R: Reader, W: Writer, E: Write + Drop> {
+pub struct PipeHouse<
+    'a,
+    S: Files + Net<Stream = TcpStream>,
+    R: Reader,
+    W: Writer,
+    E: Write + Drop,
+> {
+    alloc: Global,
+    system: &'a S,
     pipe: Pipe<R, W>,
     pub errors: E,
+    // how often a file could not be read, or a place not be reached
+    faults: u64,
 }
 
-impl<R: Reader, W: Writer, E: Write + Drop> PipeHouse<R, W, E> {
-    pub fn new(pipe: Pipe<R, W>, errors: E) -> PipeHouse<R, W, E> {
-        PipeHouse { pipe, errors }
+impl<'a, S: Files + Net<Stream = TcpStream>, R: Reader, W: Writer, E: Write + Drop> PipeHouse<
+    'a,
+    S,
+    R,
+    W,
+    E,
+> {
+    pub fn new(alloc: Global, system: &'a S, pipe: Pipe<R, W>, errors: E) -> Self {
+        PipeHouse {
+            alloc,
+            system,
+            pipe,
+            errors,
+            faults: 0,
+        }
     }
 
     /// Sends what the pipe has gathered, and gives the program's status: a fault where that fails.
@@ -31,26 +58,33 @@ impl<R: Reader, W: Writer, E: Write + Drop> PipeHouse<R, W, E> {
             return status;
         }
         if !matches!(status, Status::Fault) {
-            self.complain(Status::Fault);
+            self.complain(&Complaint::Fault);
         }
         Status::Fault
     }
 }
 
-impl<R: Reader, W: Writer, E: Write + Drop> House for PipeHouse<R, W, E> {
+impl<S: Files + Net<Stream = TcpStream>, R: Reader, W: Writer, E: Write + Drop> House
+    for PipeHouse<'_, S, R, W, E> {
     type Pipe = Pipe<R, W>;
 
     type Dice = ChaChaDice;
+
+    type Link = TcpLink;
 
     ghost pipe_of = { λ h. h.pipe };
 
     ghost with_pipe = { λ h p. record h { pipe = p } };
 
-    ghost keys = { λ _ seed. seed };
+    ghost facts = { λ h. record { keys = λ seed. seed; files = None; asks = None; faults = h.faults } };
+
+    ghost handed = { λ _. None };
 
     ghost pipe_is_put = { λ _ _. refl };
 
-    ghost keys_stay = { λ _ _. refl };
+    ghost facts_stay = { λ _ _. refl };
+
+    ghost handed_stay = { λ _ _. refl };
 
     fn pipe(&mut self) -> &mut Pipe<R, W> {
         &mut self.pipe
@@ -60,16 +94,52 @@ impl<R: Reader, W: Writer, E: Write + Drop> House for PipeHouse<R, W, E> {
         Ok(ChaChaDice::new(*seed))
     }
 
-    fn complain(&mut self, status: Status) {
-        complain(&mut self.errors, status);
+    fn file(&mut self, name: &str) -> FileRead {
+        match read_file(self.alloc, self.system, name) {
+            Ok(Some(bytes)) => FileRead::Bytes(bytes),
+            Ok(None) => FileRead::TooLong,
+            Err(error) if error.kind() == ErrorKind::OutOfMemory => FileRead::OutOfMemory,
+            Err(_) => {
+                self.faults = self.faults.saturating_add(1);
+                FileRead::Failed
+            }
+        }
+    }
+
+    fn connect(&mut self, place: Place) -> Option<TcpLink> {
+        let Ok(link) = TcpLink::connect(self.system, place.address, place.port) else {
+            self.faults = self.faults.saturating_add(1);
+            return None;
+        };
+        Some(link)
+    }
+
+    fn complain(&mut self, complaint: &Complaint) {
+        complain(&mut self.errors, complaint);
     }
 }
 
-/// Writes what is said of a status, if anything, as a line. Where that fails nothing can be said.
-pub fn complain<E: Write>(errors: &mut E, status: Status) {
-    if let Some(line) = status.complaint() {
-        if errors.write_all(line.as_bytes()).is_ok() {
-            let _ = errors.write_all(b"\n");
-        }
+// The most bytes of a file.
+const FILE_LIMIT: u64 = 16_777_216;
+
+// The bytes of a file, or nothing where it has too many. No more than one byte too many is read.
+fn read_file<F: Files>(alloc: Global, files: &F, name: &str) -> io::Result<Option<Vec<u8>>>
+    ensures { IfOk result (λ read. IfSome read (λ bytes. vec_len bytes ≤ 16_777_216)) }
+{
+    let mut bytes = Vec::new(alloc);
+    let file = fs::open(files, name)?;
+    file.take(FILE_LIMIT + 1).read_to_end(&mut bytes)?;
+    if bytes.len() as u64 > FILE_LIMIT {
+        return Ok(None);
     }
+    Ok(Some(bytes))
+}
+
+/// Writes a complaint as a line. Where that fails nothing can be said.
+pub fn complain<E: Write>(errors: &mut E, complaint: &Complaint) {
+    let label = complaint.label();
+    let _ = match complaint.line() {
+        Some(line) => writeln!(errors, "{label} {line}"),
+        None => writeln!(errors, "{label}"),
+    };
 }

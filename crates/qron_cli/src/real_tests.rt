@@ -55,7 +55,7 @@ fn failure_of_the_last_flush_is_a_fault(rt: HostRuntime) -> Result<(), Fail> {
     ];
     for (room, before, after, line) in cases {
         let alloc = rt.alloc();
-        let mut house = PipeHouse::new(gathering(alloc, room)?, Vec::new(alloc));
+        let mut house = PipeHouse::new(alloc, &rt, gathering(alloc, room)?, Vec::new(alloc));
         assert_eq!(rt; house.finish(before), after, "{room} {line}");
         assert_eq!(rt; house.errors.as_slice(), line.as_bytes(), "{room} {line}");
     }

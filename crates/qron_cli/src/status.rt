@@ -1,24 +1,36 @@
-// How the program ends.
-ghost use Rattle.std.specs.Prelude.{◌≡◌, option_map};
-ghost use Rattle.std.specs.IoError.{error_kind};
-ghost use Rattle.qron_cli.specs.Statuses.{code_of, complaint_of, status_of, words_status};
+// How a command ends, and the program's status.
+ghost use Rattle.std.specs.Prelude.{◌≡◌};
+ghost use Rattle.qron_cli.specs.Statuses.{code_of, outcome_of, status_of};
 
+use crate::complaint::Complaint;
 use session_model::Ending;
-use std::alloc::AllocError;
-use std::io::{self, ErrorKind};
+
+/// How a command ended that did its work.
+#[derive(Clone, Copy, PartialEq, Eq, Debug, Drop)]
+pub enum Work {
+    /// Each input ended between two messages, and all was written.
+    Done,
+    /// An input was cut within a message, the journal was full, the most bytes were read, or a reply is missing or is none.
+    Unfinished,
+}
+
+/// What came of a command: its work, or a complaint.
+pub type Outcome = Result<Work, Complaint>;
 
 /// How the program ended.
 #[derive(Clone, Copy, PartialEq, Eq, Debug, Drop)]
 pub enum Status {
-    /// The input ended between two messages, and all was written.
+    /// The command did its work, and nothing was left unfinished.
     Done,
+    /// A file that the words name is refused, or too long.
+    Refused,
     /// The words aren't a line of the program.
     Words,
-    /// Memory was short before anything was read.
+    /// Memory was short.
     Memory,
-    /// Reading or writing failed.
+    /// Reading, writing or asking failed.
     Fault,
-    /// The input was cut within a message, the journal was full, or the most bytes were read.
+    /// An input was cut within a message, the journal was full, the most bytes were read, or a reply is missing or is none.
     Unfinished,
 }
 
@@ -29,6 +41,7 @@ impl Status {
     {
         match self {
             Status::Done => 0,
+            Status::Refused => 1,
             Status::Words => 2,
             Status::Memory => 3,
             Status::Fault => 4,
@@ -36,48 +49,33 @@ impl Status {
         }
     }
 
-    /// What is said of it on standard error, if anything.
-    pub fn complaint(self) -> Option<&'static str>
-        ensures { option_map (λ line. line.now) result ≡ complaint_of self }
+    /// The status of an outcome.
+    pub fn of(outcome: &Outcome) -> Status
+        ensures { result ≡ status_of outcome.now }
     {
-        match self {
-            Status::Words => Some("qron: words"),
-            Status::Memory => Some("qron: memory"),
-            Status::Fault => Some("qron: fault"),
-            Status::Done | Status::Unfinished => None,
-        }
-    }
-
-    /// The status of a session's ending.
-    pub fn of_ending(ending: &Ending) -> Status
-        ensures { result ≡ status_of ending.now }
-    {
-        match ending {
-            Ending::Clean => Status::Done,
-            Ending::Cut { .. } | Ending::Full { .. } | Ending::Spent { .. } => Status::Unfinished,
-            Ending::ReadFault | Ending::WriteFault => Status::Fault,
+        match outcome {
+            Ok(Work::Done) => Status::Done,
+            Ok(Work::Unfinished) => Status::Unfinished,
+            Err(Complaint::Words) => Status::Words,
+            Err(Complaint::Memory) => Status::Memory,
+            Err(Complaint::Fault) => Status::Fault,
+            Err(
+                Complaint::Settings(_)
+                | Complaint::Schedule(_)
+                | Complaint::Script(_)
+                | Complaint::FileTooLong,
+            ) => Status::Refused,
         }
     }
 }
 
-impl From<AllocError> for Status {
-    ghost use Rattle.qron_cli.specs.declared.status.Status.TheVariants.{Memory};
-
-    ghost from_gives = { λ _ s. s ≡ Memory };
-
-    fn from(_error: AllocError) -> Status {
-        Status::Memory
-    }
-}
-
-// Why the words could not be read: memory was short, or one of them is no text.
-impl From<io::Error> for Status {
-    ghost from_gives = { λ e s. s ≡ words_status (error_kind e) };
-
-    fn from(error: io::Error) -> Status {
-        if matches!(error.kind(), ErrorKind::OutOfMemory) {
-            return Status::Memory;
-        }
-        Status::Words
+/// What came of a session with this ending.
+pub fn outcome_of(ending: &Ending) -> Outcome
+    ensures { result ≡ outcome_of ending.now }
+{
+    match ending {
+        Ending::Clean => Ok(Work::Done),
+        Ending::Cut { .. } | Ending::Full { .. } | Ending::Spent { .. } => Ok(Work::Unfinished),
+        Ending::ReadFault | Ending::WriteFault => Err(Complaint::Fault),
     }
 }

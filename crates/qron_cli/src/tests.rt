@@ -192,7 +192,14 @@ fn faults_are_told(rt: HostRuntime) -> Result<(), Fail> {
 #[test]
 fn other_words_are_refused(rt: HostRuntime) -> Result<(), Fail> {
     let none: [&str; 0] = [];
-    for args in [none.as_slice(), &["dance"], &["--help"], &["pipe", "x"]] {
+    for args in [
+        none.as_slice(),
+        &["dance"],
+        &["--help"],
+        &["pipe", "x", "y"],
+        &["replay", "x"],
+        &["drill", "0"],
+    ] {
         let alloc = rt.alloc();
         let given = Given {
             args,

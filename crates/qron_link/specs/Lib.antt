@@ -1,4 +1,9 @@
 pub mod Outside
 pub mod MemLinks
+pub mod MemLinkLaws
 pub mod Dices
 pub mod Pipes
+pub mod Transfers
+pub mod Doors
+pub mod MemDoors
+pub mod MemDoorLaws

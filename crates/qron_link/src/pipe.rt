@@ -163,6 +163,7 @@ impl<R: Reader, W: Writer> Source for Pipe<R, W> {
 
 impl<R: Reader, W: Writer> Sink for Pipe<R, W> {
     ghost use Rattle.qron_link.specs.Outside.{WriteDid, WriteCause};
+    ghost use Rattle.std.proofs.Common.{rules};
     ghost use Rattle.qron_link.specs.Pipes.{counts_after_write, KeepsLeft};
 
     ghost held = { λ p. held_of p.bytes };
@@ -170,6 +171,10 @@ impl<R: Reader, W: Writer> Sink for Pipe<R, W> {
     ghost write_faults = { λ p. p.counts.writes };
 
     ghost was_written = { KeepsLeft };
+
+    ghost writes_nowhere = { λ p. Prim.search rules };
+
+    ghost writes_on = { λ a b c h k. Prim.search rules };
 
     fn write(&mut self, piece: &[u8]) -> Put
         requires { 0 < length piece.now }

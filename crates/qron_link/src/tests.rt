@@ -1,4 +1,4 @@
-// Links in memory, and dice.
+// Links and a door in memory, and dice.
 use super::*;
 
 #[test]
@@ -31,8 +31,49 @@ fn generic_calls_read_and_write(rt: HostRuntime) {
     );
     let mut room = [0; 2];
     assert!(rt; matches!(read_link(&mut link, &mut room), Got::Bytes(2)));
-    assert!(rt; matches!(write_link(&mut link, &room), Put::Bytes(2)));
+    assert!(rt; send_link(&mut link, &room) == Ok(()));
     assert!(rt; link.written() == [1, 2].as_slice());
+}
+
+#[test]
+fn transfers_take_as_many_calls_as_they_need(rt: HostRuntime) {
+    let alloc = rt.alloc();
+    let bytes = vec![in alloc; 1, 2, 3, 4, 5, 6, 7].expect(&rt, "bytes");
+    let mut link = MemLink::new(alloc, bytes, 2, 4, Vec::new(alloc), Vec::new(alloc)).expect(
+        &rt, "link",
+    );
+    let mut room = [0; 3];
+    let mut budget = 6;
+    assert_eq!(rt; fill(&mut link, &mut room, &mut budget), Filled::Whole);
+    assert!(rt; room == [1, 2, 3]);
+    assert_eq!(rt; skip(&mut link, 2, &mut budget), Filled::Whole);
+    assert_eq!(rt; fill(&mut link, &mut room, &mut budget), Filled::Spent);
+    assert!(rt; room == [6, 2, 3]);
+    budget = 6;
+    assert_eq!(rt; skip(&mut link, 4, &mut budget), Filled::Ended { have: 1 });
+    assert_eq!(rt; send(&mut link, &room), Ok(()));
+    assert_eq!(rt; send_link(&mut link, &room), Err(NotSent));
+    assert!(rt; link.written() == [6, 2, 3, 6].as_slice());
+}
+
+#[test]
+fn doors_hand_out_links_in_order_and_fail_where_listed(rt: HostRuntime) {
+    let alloc = rt.alloc();
+    let mut links = Vec::new(alloc);
+    for byte in [1, 2] {
+        let bytes = vec![in alloc; byte].expect(&rt, "bytes");
+        let link = MemLink::new(alloc, bytes, 1, 0, Vec::new(alloc), Vec::new(alloc)).expect(
+            &rt, "link",
+        );
+        links.push(link).expect(&rt, "links");
+    }
+    let bad = vec![in alloc; 1].expect(&rt, "numbers");
+    let mut door = MemDoor::new(links, bad);
+    assert_eq!(rt; first_byte(&mut door), Some(1));
+    assert!(rt; matches!(door.next(), Knock::Failed));
+    assert_eq!(rt; first_byte(&mut door), Some(2));
+    assert!(rt; matches!(door.next(), Knock::Closed));
+    assert!(rt; matches!(door.next(), Knock::Closed));
 }
 
 #[test]
@@ -62,4 +103,16 @@ fn chacha_words_are_those_of_the_stream(rt: HostRuntime) {
     assert!(rt; dice.next() != first[0]);
     dice.begin(0, 0);
     assert!(rt; [dice.next(), dice.next(), dice.next()] == first);
+}
+
+// The first byte of the next link of a door.
+fn first_byte<D: Door>(door: &mut D) -> Option<u8> {
+    let Knock::Link(mut link) = door.next() else {
+        return None;
+    };
+    let mut room = [0; 1];
+    match read_link(&mut link, &mut room) {
+        Got::Bytes(_) => Some(room[0]),
+        _ => None,
+    }
 }

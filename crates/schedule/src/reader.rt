@@ -1,5 +1,6 @@
 // Reading a schedule, line by line.
 ghost use Rattle.std.specs.Prelude.{◌≤◌, length};
+ghost use Rattle.schedule.specs.Ranges.{IsInRange, IfRead};
 ghost use Rattle.schedule.specs.Schedule.{schedule_of};
 ghost use Rattle.schedule.specs.Views.{Gives};
 
@@ -11,7 +12,8 @@ use text_lines::{LineFault, Lines};
 /// The schedule that a text says for so many nodes, or its first refusal.
 pub fn read_schedule(alloc: Global, text: &[u8], nodes: u8) -> ScheduleRead
     requires { length text.now ≤ 16_777_216 }
-    ensures { Gives result (schedule_of nodes text.now) }
+    ensures meaning { Gives result (schedule_of nodes text.now) }
+    ensures ranges { IfRead result (IsInRange nodes) }
 {
     let mut schedule = Schedule {
         plans: Vec::new(alloc),

@@ -45,14 +45,23 @@ impl NodeCell {
     pub fn copy(&self) -> NodeCell
         ensures { result ≡ self.now }
     {
-        let mut arrivals = ArrayVec::new();
-        let Ok(()) = arrivals.try_extend_from_slice(self.arrivals.as_slice()) else {
+        let mut same = NodeCell::new();
+        same.copy_from(self);
+        same
+    }
+
+    /// Becomes the same as another node. Only what is there is copied.
+    pub fn copy_from(&mut self, other: &NodeCell)
+        ensures { self.new ≡ other.now }
+    {
+        self.handles = other.handles.copy();
+        self.arrivals.clear();
+        let Ok(()) = self
+            .arrivals
+            .try_extend_from_slice(other.arrivals.as_slice())
+        else {
             unreachable!()
         };
-        NodeCell {
-            handles: self.handles.copy(),
-            arrivals,
-        }
     }
 
     /// How many qubits are held and wait, together.

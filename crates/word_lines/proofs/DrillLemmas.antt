@@ -16,6 +16,7 @@ use Rattle.word_lines.specs.Views.{drill_found}
 use Rattle.word_lines.specs.declared.asked.Mode.TheVariants as mode
 use Rattle.word_lines.proofs.CommandLemmas.{no_words}
 use Rattle.word_lines.proofs.PlainWords.{no_hyphen, no_end}
+use Rattle.word_lines.proofs.OneWord.{one_text, more_words}
 use Rattle.word_lines.proofs.NumberWords.{number_between-none}
 
 alone : (ks : Kinds) → or_else (or_else ks []) [] ≡ ks
@@ -29,14 +30,6 @@ one_word : (word : Text) → is_dashed word ≡ false → fault_of drill_app (wo
 unfolding clap_on_literals
 one_word word plain = simp (no_hyphen word plain, no_end word plain) (alone _)
 
-one_text : (word : Text) → is_dashed word ≡ false → first_of (codes "rounds") (matches_of drill_app (word ∷ [])) ≡ Some word
-unfolding clap_on_literals
-one_text word plain = simp (no_hyphen word plain, no_end word plain)
-
-more_words : (first second : Text) (others : List Text) → is_dashed first ≡ false → is_dashed second ≡ false → fault_of drill_app (first ∷ second ∷ others) ≡ kind.UnknownArgument ∷ []
-unfolding clap_on_literals
-more_words first second others p q = simp (no_hyphen first p, no_hyphen second q, no_end first p, no_end second q)
-
 drilled : (o : Option ℕ) → option_and_then (λ n. Some (drill n)) o ≡ option_map drill o
 drilled None = refl
 drilled (Some n) = refl
@@ -44,10 +37,10 @@ drilled (Some n) = refl
 -- words that clap takes ask for what it finds in them
 pub drill_taken : (words : List Text) → list_any is_dashed words ≡ false → fault_of drill_app words ≡ [] → drill_found (first_of (codes "rounds") (matches_of drill_app words)) ≡ drill_line words
 drill_taken [] plain passed = let no : kind.MissingRequiredArgument ∷ [] ≡ [] = sym (no_words mode.Drill) ∙ passed in cc
-drill_taken (word ∷ []) plain passed = ap drill_found (one_text word (or_parts _ _ plain).0) ∙ drilled (number_between 1 100_000 word)
+drill_taken (word ∷ []) plain passed = ap drill_found (one_text word (or_parts _ _ plain).0).1 ∙ drilled (number_between 1 100_000 word)
 drill_taken (first ∷ second ∷ others) plain passed =
     let (p, later) = or_parts _ _ plain in
-    let no : kind.UnknownArgument ∷ [] ≡ [] = sym (more_words first second others p (or_parts _ _ later).0) ∙ passed in
+    let no : kind.UnknownArgument ∷ [] ≡ [] = sym (more_words first second others p (or_parts _ _ later).0).1 ∙ passed in
     cc
 
 -- words that it refuses ask for nothing

@@ -1,4 +1,5 @@
 pub mod PlainWords
+pub mod OneWord
 pub mod NumberWords
 pub mod FoundLemmas
 pub mod CommandLemmas

@@ -13,6 +13,7 @@ use Rattle.word_lines.specs.Views.{pipe_found}
 use Rattle.word_lines.specs.declared.asked.Mode.TheVariants as mode
 use Rattle.word_lines.proofs.CommandLemmas.{no_words}
 use Rattle.word_lines.proofs.PlainWords.{no_hyphen, no_end}
+use Rattle.word_lines.proofs.OneWord.{one_text, more_words}
 
 no_text : first_of (codes "settings") (matches_of pipe_app []) ≡ None
 unfolding clap_on_literals
@@ -22,21 +23,13 @@ one_word : (word : Text) → is_dashed word ≡ false → fault_of pipe_app (wor
 unfolding clap_on_literals
 one_word word p = simp (no_hyphen word p, no_end word p)
 
-one_text : (word : Text) → is_dashed word ≡ false → first_of (codes "settings") (matches_of pipe_app (word ∷ [])) ≡ Some word
-unfolding clap_on_literals
-one_text word p = simp (no_hyphen word p, no_end word p)
-
-more_words : (first second : Text) (others : List Text) → is_dashed first ≡ false → is_dashed second ≡ false → fault_of pipe_app (first ∷ second ∷ others) ≡ kind.UnknownArgument ∷ []
-unfolding clap_on_literals
-more_words first second others p q = simp (no_hyphen first p, no_hyphen second q, no_end first p, no_end second q)
-
 -- words that clap takes ask for what it finds in them
 pub pipe_taken : (words : List Text) → list_any is_dashed words ≡ false → fault_of pipe_app words ≡ [] → Some (pipe_found (first_of (codes "settings") (matches_of pipe_app words))) ≡ pipe_line words
 pipe_taken [] plain passed = ap (λ text. Some (pipe_found text)) no_text
-pipe_taken (word ∷ []) plain passed = ap (λ text. Some (pipe_found text)) (one_text word (or_parts _ _ plain).0)
+pipe_taken (word ∷ []) plain passed = ap (λ text. Some (pipe_found text)) (one_text word (or_parts _ _ plain).0).0
 pipe_taken (first ∷ second ∷ others) plain passed =
     let (p, later) = or_parts _ _ plain in
-    let no : kind.UnknownArgument ∷ [] ≡ [] = sym (more_words first second others p (or_parts _ _ later).0) ∙ passed in
+    let no : kind.UnknownArgument ∷ [] ≡ [] = sym (more_words first second others p (or_parts _ _ later).0).0 ∙ passed in
     cc
 
 -- words that it refuses ask for nothing

@@ -34,8 +34,8 @@ none_of k h e = subst (λ (x : List Entry). own_entries k 0 x ≡ []) (sym e) re
 
 pub replay-requires-clause-begun : goal.replay-requires-clause-begun
 replay-requires-clause-begun c =
-    both_begun (λ a. a.session) (λ a. a.ending) _ _ _ _ c.in_ok-solo.ensures.nodes
+    both_begun (λ a. a.session) (λ a. a.ending) _ _ _ _ c.requires.nodes
     c.in_ok-seated.ensures.session c.in_ok-seated.ensures.ending c.in_ok-seated-2.ensures.session c.in_ok-seated-2.ensures.ending
 
 pub replay-requires-clause-unused : goal.replay-requires-clause-unused
-replay-requires-clause-unused c k few = none_of k _ c.in_ok-solo.ensures.empty
+replay-requires-clause-unused c k few = none_of k _ c.requires.empty

@@ -1,7 +1,7 @@
 use Rattle.std.proofs.Common.{refl, sym, ap, ◌∙◌, arith}
 use Rattle.session_model.specs.Walk.{Connection, call_of}
 use Rattle.cqc_session.specs.State.{stage_after_answer}
-use Rattle.cqc_session.proofs.Serves.{begins, poll_goes, poll_ends, asking, answer_ends, answer_goes, goes_at, served_at, serving_at}
+use Rattle.cqc_session.proofs.Serves.{begins, poll_ends, round_ends, round_goes}
 use Rattle.cqc_session.proofs.over_core.serve.Goals as goal
 
 pub loop-ending-init : goal.loop-ending-init
@@ -40,25 +40,18 @@ returns-in-End-clause-served g c =
 pub returns-in-Some-clause-served : goal.returns-in-Some-clause-served
 returns-in-Some-clause-served g c =
     let kept = c.loop-ending.invariant in
-    let connection = c.args.session.now.connection in
     let turn = c.in-Execute.ensures.turn in
-    let serving = poll_goes connection c.args.session.now.cap _ _ _ _ _ _ c.loop-ending.session c.poll.new.self _ _ kept.0 kept.1 turn.0 in
-    let ask = asking connection c.args.session.now.cap _ _ _ _ c.poll.new.self _ _ c.in-Execute.call serving (c.poll.ensures.connection ∙ kept.1) turn.1 in
-    served_at connection c.args.session.now.cap _ _ _ _ _ _ _ _ _ _ c.in-Some.ending c.answer.ensures.left kept.4
-    (answer_ends connection c.args.session.now.cap _ _ _ _ _ _ _ _ _ (g.K.Core.seen c.execute-done.new.self) (g.K.Core.capacity c.loop-ending.core) _ c.in-Execute.call c.execute-done.result c.in-Some.ending ask
-    c.execute-done.ensures.step (c.in-Some.ensures.answered c.in-Execute.call turn.1))
+    round_ends _ c.args.session.now.cap _ _ _ _ _ _ _ _ c.loop-ending.session c.poll.new.self _ _ _ _ _ c.in-Execute.call c.execute-done.result
+    c.answer.ensures.left kept.0 kept.1 c.poll.ensures.connection turn c.execute-done.ensures.step
+    (g.K.Core.capacity c.args.core.now) c.in-Some.ending kept.4 (c.in-Some.ensures.answered c.in-Execute.call turn.1)
 
 pub loop-ending-preserved : goal.loop-ending-preserved
 loop-ending-preserved g c =
     let kept = c.loop-ending.invariant in
-    let connection = c.args.session.now.connection in
-    let turn = c.in-Execute.ensures.turn in
-    let serving = poll_goes connection c.args.session.now.cap _ _ _ _ _ _ c.loop-ending.session c.poll.new.self _ _ kept.0 kept.1 turn.0 in
-    let ask = asking connection c.args.session.now.cap _ _ _ _ c.poll.new.self _ _ c.in-Execute.call serving (c.poll.ensures.connection ∙ kept.1) turn.1 in (
-      serving_at connection c.args.session.now.cap _ _ _ _ _ _ _ _ _ _ c.answer.ensures.left c.answer.ensures.budget
-          (answer_goes connection c.args.session.now.cap _ _ _ _ _ _ _ _ _ (g.K.Core.seen c.execute-done.new.self) (g.K.Core.capacity c.loop-ending.core) _ c.answer.new.self.work c.in-Execute.call c.execute-done.result ask
-          c.execute-done.ensures.step
-          (goes_at connection c.poll.new.self.connection _ _ _ _ _ _ (c.poll.ensures.connection ∙ kept.1) (c.in_default.ensures.answered c.in-Execute.call turn.1))),
+    let turn = c.in-Execute.ensures.turn in (
+      round_goes _ c.args.session.now.cap _ _ _ _ _ _ _ _ c.loop-ending.session c.poll.new.self _ _ _ _ _ c.in-Execute.call c.execute-done.result
+          c.answer.ensures.left kept.0 kept.1 c.poll.ensures.connection turn c.execute-done.ensures.step
+          c.answer.new.self.budget c.answer.new.self.work c.answer.ensures.budget (c.in_default.ensures.answered c.in-Execute.call turn.1),
       c.answer.ensures.connection ∙ c.poll.ensures.connection ∙ kept.1,
       c.answer.ensures.cap ∙ c.poll.ensures.cap ∙ kept.2,
       c.answer.ensures.stage ∙ ap stage_after_answer c.in_default.is,

@@ -1,7 +1,7 @@
 use Rattle.std.proofs.Common.{refl, ap, ◌∙◌, arith}
 use Rattle.factored_core.specs.Core.{Journal}
 use Rattle.cqc_session.specs.State.{State, stage_after_answer}
-use Rattle.cqc_session.proofs.Serves.{begins, poll_goes, poll_ends, asking, answer_ends, answer_goes, goes_at, served_at, serving_at}
+use Rattle.cqc_session.proofs.Serves.{begins, poll_ends, round_ends, round_goes}
 use Rattle.cqc_session.proofs.Solos.{as_executed, core_did, same_journal, worded_none, worded_on, taken_few, asked_allowed, word_is}
 use Rattle.cqc_session.proofs.solo.serve_solo.Goals as goal
 
@@ -20,6 +20,7 @@ loop-ending-init g c =
       c.begin.ensures.serial ∙ c.serial.ensures,
       omega arith,
       omega arith,
+      g.met.L.Link.leads_nowhere _,
     )
 
 pub execute-done-requires-clause-allowed : goal.execute-done-requires-clause-allowed
@@ -40,14 +41,12 @@ returns-in-End-clause-served g c =
 pub returns-in-Some-clause-served : goal.returns-in-Some-clause-served
 returns-in-Some-clause-served g c =
     let kept = c.loop-ending.invariant in
-    let connection = c.args.session.now.connection in
     let turn = c.in-Execute.ensures.turn in
     let x = as_executed g.D.Dice.taken c.in-Execute.call c.execute-done.result _ c.loop-ending.dice c.execute-done.new.dice _ _ c.execute-done.ensures.step in
-    let serving = poll_goes connection c.args.session.now.cap _ _ _ _ _ _ c.loop-ending.session c.poll.new.self _ _ kept.0 kept.1 turn.0 in
-    let ask = asking connection c.args.session.now.cap _ _ _ _ c.poll.new.self _ _ c.in-Execute.call serving (c.poll.ensures.connection ∙ kept.1) turn.1 in
-    served_at connection c.args.session.now.cap _ _ _ _ _ _ _ _ _ _ c.in-Some.ending c.answer.ensures.left (ap (λ (j : Journal). j.capacity) kept.4)
-    (answer_ends connection c.args.session.now.cap _ _ _ _ _ _ _ _ _ _ c.loop-ending.solo.capacity _ c.in-Execute.call c.execute-done.result c.in-Some.ending ask
-    (core_did c.in-Execute.call c.execute-done.result _ _ _ c.loop-ending.solo c.execute-done.new.solo x) (c.in-Some.ensures.answered c.in-Execute.call turn.1))
+    round_ends _ c.args.session.now.cap _ _ _ _ _ _ _ _ c.loop-ending.session c.poll.new.self _ _ _ _ _ c.in-Execute.call c.execute-done.result
+    c.answer.ensures.left kept.0 kept.1 c.poll.ensures.connection turn
+    (core_did c.in-Execute.call c.execute-done.result _ _ _ c.loop-ending.solo c.execute-done.new.solo x)
+    c.args.solo.now.capacity c.in-Some.ending (ap (λ (j : Journal). j.capacity) kept.4) (c.in-Some.ensures.answered c.in-Execute.call turn.1)
 
 pub returns-in-Some-clause-worded : goal.returns-in-Some-clause-worded
 returns-in-Some-clause-worded g c =
@@ -65,15 +64,12 @@ returns-in-Some-clause-journal g c =
 pub loop-ending-preserved : goal.loop-ending-preserved
 loop-ending-preserved g c =
     let kept = c.loop-ending.invariant in
-    let connection = c.args.session.now.connection in
     let turn = c.in-Execute.ensures.turn in
-    let x = as_executed g.D.Dice.taken c.in-Execute.call c.execute-done.result _ c.loop-ending.dice c.execute-done.new.dice _ _ c.execute-done.ensures.step in
-    let serving = poll_goes connection c.args.session.now.cap _ _ _ _ _ _ c.loop-ending.session c.poll.new.self _ _ kept.0 kept.1 turn.0 in
-    let ask = asking connection c.args.session.now.cap _ _ _ _ c.poll.new.self _ _ c.in-Execute.call serving (c.poll.ensures.connection ∙ kept.1) turn.1 in (
-      serving_at connection c.args.session.now.cap _ _ _ _ _ _ _ _ _ _ c.answer.ensures.left c.answer.ensures.budget
-          (answer_goes connection c.args.session.now.cap _ _ _ _ _ _ _ _ _ _ c.loop-ending.solo.capacity _ c.answer.new.self.work c.in-Execute.call c.execute-done.result ask
+    let x = as_executed g.D.Dice.taken c.in-Execute.call c.execute-done.result _ c.loop-ending.dice c.execute-done.new.dice _ _ c.execute-done.ensures.step in (
+      round_goes _ c.args.session.now.cap _ _ _ _ _ _ _ _ c.loop-ending.session c.poll.new.self _ _ _ _ _ c.in-Execute.call c.execute-done.result
+          c.answer.ensures.left kept.0 kept.1 c.poll.ensures.connection turn
           (core_did c.in-Execute.call c.execute-done.result _ _ _ c.loop-ending.solo c.execute-done.new.solo x)
-          (goes_at connection c.poll.new.self.connection _ _ _ _ _ _ (c.poll.ensures.connection ∙ kept.1) (c.in_default.ensures.answered c.in-Execute.call turn.1))),
+          c.answer.new.self.budget c.answer.new.self.work c.answer.ensures.budget (c.in_default.ensures.answered c.in-Execute.call turn.1),
       c.answer.ensures.connection ∙ c.poll.ensures.connection ∙ kept.1,
       c.answer.ensures.cap ∙ c.poll.ensures.cap ∙ kept.2,
       c.answer.ensures.stage ∙ ap stage_after_answer c.in_default.is,
@@ -85,4 +81,5 @@ loop-ending-preserved g c =
       c.execute-done.ensures.serial ∙ kept.8,
       omega (arith, c.in-Execute.ensures.cause.0, c.answer.ensures.read_faults),
       omega (arith, c.in-Execute.ensures.cause.1, c.in_default.ensures.cause),
+      g.met.L.Link.leads_on _ _ _ (g.met.L.Link.leads_on _ _ _ kept.11 c.poll.ensures.led) c.answer.ensures.led,
     )

@@ -18,6 +18,7 @@ invariant-loop-ending g l =
     × (g.D.Dice.begun_serial l.dice ≡ l.fn.session.connection.serial)
     × (g.L.Source.read_faults l.fn.link ≤ g.L.Source.read_faults l.link)
     × (g.L.Sink.write_faults l.fn.link ≤ g.L.Sink.write_faults l.link)
+    × g.L.Link.was_led l.fn.link l.link
 
 abbrev pub decreases-loop-ending : goal.decreases-loop-ending
 decreases-loop-ending g l = steps_left l.session

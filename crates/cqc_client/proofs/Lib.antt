@@ -1,0 +1,11 @@
+pub mod TallyLemmas
+pub mod Dues
+pub mod Faults
+pub mod Heads
+pub mod HeardLines
+pub mod Hearings
+pub mod Items
+pub mod Moves
+pub mod Progress
+pub mod Replies
+pub mod Sends

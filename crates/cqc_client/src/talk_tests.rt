@@ -1,0 +1,174 @@
+// Talks over a link in memory.
+ghost use Rattle.std.specs.Prelude.{◌<◌};
+
+use crate::{ScriptRead, Talked, read_script, talk};
+use qron_link::MemLink;
+use std::alloc::Global;
+use std::test::Fail;
+
+// The script of most tests.
+const SCRIPT: &str = "app 7\nnew\nx 0\nmeasure 0\ngo\n";
+
+// What it sends.
+const SENT: [u8; 20] = [2, 1, 0, 7, 0, 0, 0, 12, 0, 0, 1, 0, 0, 0, 10, 0, 0, 0, 2, 1];
+
+// The replies NEW_OK 0, MEASOUT 1 and DONE of app 7.
+const REPLIES: [u8; 27] = [
+    2, 10, 0, 7, 0, 0, 0, 2, 0, 0, 2, 7, 0, 7, 0, 0, 0, 1, 1, 2, 4, 0, 7, 0, 0, 0, 0,
+];
+
+// A link with bytes to read, at most `piece` at a time, on which the reads and writes of these numbers fail.
+fn link_of(
+    alloc: Global,
+    bytes: &[u8],
+    piece: u32,
+    bad_reads: &[u32],
+    bad_writes: &[u32],
+) -> Result<MemLink, Fail>
+    requires { 0 < piece }
+{
+    let bytes = Vec::from_slice(alloc, bytes)?;
+    let bad_reads = Vec::from_slice(alloc, bad_reads)?;
+    let bad_writes = Vec::from_slice(alloc, bad_writes)?;
+    Ok(MemLink::new(alloc, bytes, piece, 4096, bad_reads, bad_writes)?)
+}
+
+// How the talk over a script ends.
+#[tactic(auto, using(script::proofs::Sendable::from_script))]
+fn talked(
+    alloc: Global,
+    text: &str,
+    link: &mut MemLink,
+    out: &mut MemLink,
+) -> Result<Talked, Fail> {
+    if text.len() > 16_777_216 {
+        return Err(Fail::from("too long"));
+    }
+    let ScriptRead::Read(script) = read_script(alloc, text.as_bytes()) else {
+        return Err(Fail::from("no script"));
+    };
+    if script.len() > 2 {
+        return Err(Fail::from("too many messages"));
+    }
+    Ok(talk(alloc, &script, link, out)?)
+}
+
+// A sink that takes all.
+fn sink(alloc: Global) -> Result<MemLink, Fail> {
+    link_of(alloc, &[], 1, &[], &[])
+}
+
+#[test]
+fn replies_are_printed_up_to_done(rt: HostRuntime) -> Result<(), Fail> {
+    let alloc = rt.alloc();
+    for piece in [1, 5, 64] {
+        let mut link = link_of(alloc, &REPLIES, piece, &[], &[])?;
+        let mut out = sink(alloc)?;
+        let answer = talked(alloc, SCRIPT, &mut link, &mut out)?;
+        assert_eq!(rt; answer, Talked::Done { messages: 1 });
+        assert!(rt; link.written() == SENT.as_slice());
+        assert!(rt; out.written() == b"new 0\nout 1\ndone\n".as_slice());
+    }
+    Ok(())
+}
+
+#[test]
+fn link_that_ends_early_cuts_the_talk(rt: HostRuntime) -> Result<(), Fail> {
+    let alloc = rt.alloc();
+    for have in [10, 11, 18] {
+        let mut link = link_of(alloc, &REPLIES[..have], 64, &[], &[])?;
+        let mut out = sink(alloc)?;
+        let answer = talked(alloc, SCRIPT, &mut link, &mut out)?;
+        assert_eq!(rt; answer, Talked::Cut { message: 0 });
+        assert!(rt; link.written() == SENT.as_slice());
+        assert!(rt; out.written() == b"new 0\n".as_slice());
+    }
+    Ok(())
+}
+
+#[test]
+fn reply_of_another_app_is_strange_before_its_body(rt: HostRuntime) -> Result<(), Fail> {
+    let alloc = rt.alloc();
+    let mut link = link_of(alloc, &[2, 10, 0, 6, 0, 0, 0, 2], 64, &[], &[])?;
+    let mut out = sink(alloc)?;
+    let answer = talked(alloc, SCRIPT, &mut link, &mut out)?;
+    assert_eq!(rt;
+        answer,
+        Talked::Strange {
+            message: 0,
+            kind: 10
+        }
+    );
+    assert!(rt; out.written() == b"".as_slice());
+    Ok(())
+}
+
+#[test]
+fn outcome_of_two_is_strange(rt: HostRuntime) -> Result<(), Fail> {
+    let alloc = rt.alloc();
+    let mut link = link_of(alloc, &[2, 7, 0, 7, 0, 0, 0, 1, 2], 64, &[], &[])?;
+    let mut out = sink(alloc)?;
+    let answer = talked(alloc, SCRIPT, &mut link, &mut out)?;
+    assert_eq!(rt;
+        answer,
+        Talked::Strange {
+            message: 0,
+            kind: 7
+        }
+    );
+    Ok(())
+}
+
+#[test]
+fn each_side_may_fail(rt: HostRuntime) -> Result<(), Fail> {
+    let alloc = rt.alloc();
+    let mut link = link_of(alloc, &REPLIES, 10, &[1], &[])?;
+    let mut out = sink(alloc)?;
+    assert_eq!(rt;
+        talked(alloc, SCRIPT, &mut link, &mut out)?,
+        Talked::LinkRead
+    );
+    let mut link = link_of(alloc, &REPLIES, 10, &[], &[0])?;
+    assert_eq!(rt;
+        talked(alloc, SCRIPT, &mut link, &mut out)?,
+        Talked::LinkWrite
+    );
+    let mut link = link_of(alloc, &REPLIES, 10, &[], &[])?;
+    let mut out = link_of(alloc, &[], 1, &[], &[1])?;
+    assert_eq!(rt;
+        talked(alloc, SCRIPT, &mut link, &mut out)?,
+        Talked::OutWrite
+    );
+    assert!(rt; out.written() == b"new 0\n".as_slice());
+    Ok(())
+}
+
+#[test]
+fn next_message_is_sent_after_an_error(rt: HostRuntime) -> Result<(), Fail> {
+    let alloc = rt.alloc();
+    let replies = [2, 25, 0, 7, 0, 0, 0, 0, 2, 0, 0, 7, 0, 0, 0, 0];
+    let mut link = link_of(alloc, &replies, 64, &[], &[])?;
+    let mut out = sink(alloc)?;
+    let answer = talked(alloc, "app 7\nmeasure 3\ngo\nhello\n", &mut link, &mut out)?;
+    assert_eq!(rt; answer, Talked::Done { messages: 2 });
+    let sent = [2, 1, 0, 7, 0, 0, 0, 4, 0, 3, 2, 1, 2, 0, 0, 7, 0, 0, 0, 0];
+    assert!(rt; link.written() == sent.as_slice());
+    assert!(rt; out.written() == b"error 25\nhello\n".as_slice());
+    Ok(())
+}
+
+#[test]
+fn pair_is_printed_with_its_number(rt: HostRuntime) -> Result<(), Fail> {
+    let alloc = rt.alloc();
+    let replies = [
+        2, 6, 0, 0, 0, 0, 0, 42, 0, 3, 127, 0, 0, 1, 34, 117, 0, 0, 127, 0, 0, 1, 34, 118, 0, 0, 0,
+        1, 0, 2, 0, 0, 0, 0, 0, 0, 0, 0, 0, 0, 0, 0, 0, 0, 0, 0, 0, 0, 0, 0, 2, 4, 0, 0, 0, 0, 0,
+        0,
+    ];
+    let mut link = link_of(alloc, &replies, 7, &[], &[])?;
+    let mut out = sink(alloc)?;
+    let answer = talked(alloc, "epr 0 0 127.0.0.1 8822\ngo\n", &mut link, &mut out)?;
+    assert_eq!(rt; answer, Talked::Done { messages: 1 });
+    assert!(rt; out.written() == b"epr 3 65538\ndone\n".as_slice());
+    Ok(())
+}

@@ -1,0 +1,24 @@
+use Rattle.std.proofs.Common.{ap, inl, inr, arith}
+use Rattle.std.proofs.lemmas.Result.{err_from_is_err_and}
+use Rattle.node_table.specs.declared.settings.Settings.{Settings}
+use Rattle.node_table.specs.Document.{IsInRange}
+use Rattle.qron_cli.specs.Files.{SaysSettings, NoSettings}
+use Rattle.qron_cli.specs.Replay.{NoReplay}
+use Rattle.qron_cli.specs.Seen.{Seen}
+use Rattle.qron_cli.specs.Statuses.{status_for}
+use Rattle.qron_cli.proofs.Answering.{stopped_by_settings, stopped_later}
+use Rattle.qron_cli.proofs.replay_command.run_replay.Goals as goal
+
+pub returns-in_err-settings : goal.returns-in_err-settings
+returns-in_err-settings g c =
+    let seen : g.row.H-Pipe.Denot → Seen = λ pipe. record { left = g.H.Pipe.Source.left pipe; held = g.H.Pipe.Sink.held pipe; read_faults = g.H.Pipe.Source.read_faults pipe; write_faults = g.H.Pipe.Sink.write_faults pipe } in
+    let name = c.args.settings.now in
+    let before = g.H.House.facts c.args.house.now in
+    let after = g.H.House.facts c.settings_of.new.house in
+    let why = c.in_err-settings.field-0.0 in
+    let p = err_from_is_err_and c.from_residual.result c.from_residual.ensures.1 in
+    rw (p.1, p.2) (inl (
+      stopped_later (NoSettings before name) (NoReplay before name c.args.schedule.now) before before after (status_for why) (omega arith) inl
+          (stopped_by_settings (λ (s : Settings). SaysSettings before name s × IsInRange s) name before after why c.in_err-settings.ensures.gave),
+      ap seen c.settings_of.ensures.pipe,
+    ))

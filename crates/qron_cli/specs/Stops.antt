@@ -1,0 +1,21 @@
+-- How commands stop before they do anything.
+use Rattle.std.specs.Prelude.{◌≡◌}
+use Rattle.qron_link.specs.Outside.{Rose}
+use Rattle.qron_cli.specs.House.{Facts}
+use Rattle.qron_cli.specs.Seen.{Seen}
+use Rattle.qron_cli.specs.declared.status.Status.{Status}
+use Rattle.qron_cli.specs.declared.status.Status.TheVariants.{Done, Refused, Words, Memory, Fault, Unfinished}
+
+-- A command stopped before it did anything: memory was short, the house's count of faults rose, or a file that the
+-- words name is refused.
+abbrev pub StoppedAs : Type 0 → Facts → Facts → Status → Type 0
+StoppedAs refused old new Memory = Unit {0}
+StoppedAs refused old new Fault = Rose old.faults new.faults
+StoppedAs refused old new Refused = refused
+StoppedAs refused old new Done = ⊥
+StoppedAs refused old new Words = ⊥
+StoppedAs refused old new Unfinished = ⊥
+
+-- a command stopped before it did anything, and the pipe is as it was
+abbrev pub Stopped : Type 0 → Facts → Facts → Seen → Seen → Status → Type 0
+Stopped refused before after old new status = StoppedAs refused before after status × (new ≡ old)

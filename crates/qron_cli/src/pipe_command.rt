@@ -1,0 +1,106 @@
+// One connection on the pipe, over a core of its own.
+ghost use Rattle.std.specs.Prelude.{◌≡◌, ◌<◌, length, IfOk, [], ◌∷◌};
+ghost use Rattle.cqc_session.specs.State.{begun};
+ghost use Rattle.node_table.specs.Document.{IsInRange};
+ghost use Rattle.qron_cli.specs.House.{Allows, ask_file};
+ghost use Rattle.qron_cli.specs.Pipe.{pipe_connection, journal_of, read_limit, PipeServed, PipeRan, PipeWithRan};
+ghost use Rattle.qron_cli.specs.Seen.{Seen};
+ghost use Rattle.qron_cli.specs.Statuses.{status_of};
+
+use crate::files::settings_of;
+use crate::house::House;
+use crate::status::{Outcome, outcome_of};
+use cqc_session::{Session, serve_solo};
+use factored_core::Solo;
+use node_table::Settings;
+use qron_link::{Dice, Link};
+use session_model::Ending;
+use std::alloc::{AllocError, Global};
+
+/// The most bytes that are read on a connection.
+pub const READ_LIMIT: u64 = 4_294_967_296;
+
+// A core without entries, dice and a session that has begun, with all the room that they ever take.
+#[derive(Drop)]
+struct Opened<D: Dice + Drop> {
+    solo: Solo,
+    dice: D,
+    session: Session,
+}
+
+fn open<D: Dice + Drop>(alloc: Global, settings: Settings, dice: D) -> Result<Opened<D>, AllocError>
+    requires { IsInRange settings }
+    ensures core { IfOk result (λ o. o.solo ≡ journal_of settings []) }
+    ensures node { IfOk result (λ o. 0 < length o.solo.shape.places) }
+    ensures key { IfOk result (λ o. D.key o.dice ≡ D.key dice) }
+    ensures session { IfOk result (λ o. o.session ≡ begun pipe_connection read_limit) }
+{
+    let Settings { shape, journal, .. } = settings;
+    let _nodes = shape.nodes();
+    let solo = Solo::open(alloc, shape, journal)?;
+    let mut session = Session::new(alloc, 0, 0, READ_LIMIT)?;
+    session.begin(0);
+    Ok(Opened {
+        solo,
+        dice,
+        session,
+    })
+}
+
+// The same with the house's dice of the seed.
+fn open_with<H: House>(
+    alloc: Global,
+    settings: Settings,
+    house: &mut H,
+) -> Result<Opened<H::Dice>, AllocError>
+    requires { IsInRange settings }
+    ensures core { IfOk result (λ o. o.solo ≡ journal_of settings []) }
+    ensures node { IfOk result (λ o. 0 < length o.solo.shape.places) }
+    ensures key { IfOk result (λ o. H.Dice.key o.dice ≡ (H.facts house.old).keys settings.seed) }
+    ensures session { IfOk result (λ o. o.session ≡ begun pipe_connection read_limit) }
+    ensures facts { H.facts house.new ≡ H.facts house.old }
+    ensures pipe { H.pipe_of house.new ≡ H.pipe_of house.old }
+{
+    let dice = house.dice(&settings.seed)?;
+    open(alloc, settings, dice)
+}
+
+// Serves a connection over a core without entries.
+fn serve_pipe<L: Link, D: Dice + Drop>(opened: &mut Opened<D>, link: &mut L) -> Ending
+    requires core { opened.old.solo.entries ≡ [] }
+    requires node { 0 < length opened.old.solo.shape.places }
+    requires session { opened.old.session ≡ begun pipe_connection read_limit }
+    ensures { let seen : L → Seen = λ link. record { left = L.left link; held = L.held link; read_faults = L.read_faults link; write_faults = L.write_faults link } in
+        PipeServed opened.old.solo.shape opened.old.solo.capacity (λ k. D.word (D.key opened.old.dice) 0 0 k) (seen link.old) (seen link.new) result }
+{
+    let ending = serve_solo(
+        &mut opened.solo,
+        &mut opened.session,
+        link,
+        &mut opened.dice,
+    );
+    // the journal's own contract says that its entries are a legal history
+    let _entries = opened.solo.entries();
+    ending
+}
+
+/// Serves one connection on the pipe, over a core of its own. All room is taken before the pipe is touched.
+pub fn run_pipe<H: House>(alloc: Global, settings: Settings, house: &mut H) -> Outcome
+    requires { IsInRange settings }
+    ensures { let seen : H.Pipe → Seen = λ pipe. record { left = H.Pipe.Source.left pipe; held = H.Pipe.Sink.held pipe; read_faults = H.Pipe.Source.read_faults pipe; write_faults = H.Pipe.Sink.write_faults pipe } in
+        PipeRan H.Dice.word settings (H.facts house.old) (H.facts house.new) (seen (H.pipe_of house.old)) (seen (H.pipe_of house.new)) (status_of result) }
+{
+    let mut opened = open_with(alloc, settings, house)?;
+    let ending = serve_pipe(&mut opened, house.pipe());
+    outcome_of(&ending)
+}
+
+/// The same with the settings of a file.
+pub fn run_pipe_with<H: House>(alloc: Global, settings: &str, house: &mut H) -> Outcome
+    requires { Allows (ask_file settings.now ∷ []) (H.facts house.old) }
+    ensures { let seen : H.Pipe → Seen = λ pipe. record { left = H.Pipe.Source.left pipe; held = H.Pipe.Sink.held pipe; read_faults = H.Pipe.Source.read_faults pipe; write_faults = H.Pipe.Sink.write_faults pipe } in
+        PipeWithRan H.Dice.word settings.now (H.facts house.old) (H.facts house.new) (seen (H.pipe_of house.old)) (seen (H.pipe_of house.new)) (status_of result) }
+{
+    let settings = settings_of(alloc, house, settings)?;
+    run_pipe(alloc, settings, house)
+}
