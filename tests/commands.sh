@@ -153,6 +153,43 @@ expect 'commands that wait at the end' 1 '' 'qron: script line 2' talk 127.0.0.1
 echo hello >script
 expect 'nobody listens' 4 '' 'qron: fault' talk 127.0.0.1 1 script
 
+# ---- drill
+expect 'three rounds' 0 'rounds 3
+entries 21
+equal 3
+ones 2
+bytes 177 177' '' drill 3
+"$top/qron" drill 1000 >out 2>err
+same 'a thousand rounds' '0 rounds 1000 entries 7000 equal 1000 bytes 59000 59000 []' "$? $(grep -v '^ones' out | tr '\n' ' ')[$(cat err)]"
+"$top/qron" drill 100000 >out 2>err
+same 'the most rounds' '0 rounds 100000 entries 700000 equal 100000 bytes 5900000 5900000 []' \
+    "$? $(grep -v '^ones' out | tr '\n' ' ')[$(cat err)]"
+
+# ---- a terminal
+# at_terminal NAME WANT WORDS..: both lines of a complaint, where standard error is a terminal
+at_terminal() {
+    local name=$1 want=$2
+    shift 2
+    same "$name" "$want" "$(python3 - "$top/qron" "$@" <<'PYTHON'
+import os, pty, subprocess, sys
+ours, theirs = pty.openpty()
+subprocess.run(sys.argv[1:], stdin=subprocess.DEVNULL, stdout=subprocess.DEVNULL, stderr=theirs)
+os.close(theirs)
+said = b""
+try:
+    while piece := os.read(ours, 4096):
+        said += piece
+except OSError:
+    pass
+print(said.decode().replace("\r", ""), end="")
+PYTHON
+)"
+}
+at_terminal 'a terminal is told the lines' 'qron: words
+the words are: pipe, pipe <settings>, replay <settings> <schedule>, talk <address> <port> <script>, or drill <rounds>' dance
+at_terminal 'a terminal is told the key' 'qron: settings
+the top table: limit is out of its range, a whole number from 1 to 12 is expected' pipe 'a limit of 13'
+
 # ---- files
 mkdir folder
 for name in folder no_such_file; do

@@ -40,7 +40,7 @@ is_absent : {A : Type 0} (n m : ℕ) (x : A) → n ≤ m → slice_get (replicat
 is_absent n m x past = let long = length-replicate n x in slice_get_past (replicate n x) m (omega arith)
 
 -- ---- new cells fit the opening
-new_node_fits : (m : ℕ) → FitsNode opening m (held_map empty_node) (arrived_map empty_node)
+pub new_node_fits : (m : ℕ) → FitsNode opening m (held_map empty_node) (arrived_map empty_node)
 unfolding opening held_number queue
 new_node_fits m = record { handles = λ app id. refl; queues = λ app line. refl }
 

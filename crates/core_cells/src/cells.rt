@@ -1,11 +1,11 @@
 // The cells of the core, each with room for its next value.
-ghost use Rattle.std.specs.Prelude.{◌≡◌, ◌≤◌, ℕ, None, Some, IfOk};
+ghost use Rattle.std.specs.Prelude.{◌≡◌, ◌≤◌, ℕ, None, Some, IfOk, is_some};
 ghost use Rattle.state_model.specs.Row.{is_listed};
 ghost use Rattle.network_model.specs.Network.{Shape, opening};
-ghost use Rattle.network_model.specs.Factored.{FitsSlot};
+ghost use Rattle.network_model.specs.Factored.{FitsNode, FitsSlot};
 ghost use Rattle.core_cells.specs.Cells.{empty_slot, register_of};
 ghost use Rattle.core_cells.specs.Names.{done_by};
-ghost use Rattle.virtual_node.specs.Node.{empty_node};
+ghost use Rattle.virtual_node.specs.Node.{empty_node, held_map, arrived_map};
 
 use crate::names::Ending;
 use crate::pool::PoolCell;
@@ -49,9 +49,11 @@ pub struct SlotCell {
 }
 
 impl NodePair {
-    /// A node where nothing is held and nothing waits.
-    pub(crate) fn new() -> NodePair
-        ensures { result ≡ record { now = empty_node; next = None } }
+    /// A node where nothing is held and nothing waits, and nothing is prepared. It fits a network in which nothing has
+    /// been done.
+    pub fn new() -> NodePair
+        ensures empty { result ≡ record { now = empty_node; next = None } }
+        ensures fits { (m : ℕ) → FitsNode opening m (held_map result.now) (arrived_map result.now) }
     {
         NodePair {
             value: NodeCell::new(),
@@ -67,6 +69,13 @@ impl NodePair {
         &self.value
     }
 
+    /// Whether a next value is prepared.
+    pub fn is_prepared(&self) -> bool
+        ensures { result ≡ is_some self.now.next }
+    {
+        self.is_prepared
+    }
+
     /// Prepares a next value, the same as a cell.
     pub fn prepare(&mut self, cell: &NodeCell)
         ensures { self.new ≡ record self.old { next = Some cell.now } }
@@ -76,7 +85,7 @@ impl NodePair {
     }
 
     /// The prepared value is gone. Where it is to be settled, it was put in place.
-    pub(crate) fn end(&mut self, ending: Ending)
+    pub fn end(&mut self, ending: Ending)
         ensures { self.new ≡ (done_by ending).node self.old }
     {
         if self.is_prepared && ending == Ending::Settle {
@@ -88,7 +97,7 @@ impl NodePair {
 
 impl PoolPair {
     /// The prepared value is gone. Where it is to be settled, it was put in place.
-    pub(crate) fn end(&mut self, ending: Ending)
+    pub fn end(&mut self, ending: Ending)
         ensures { self.new ≡ (done_by ending).pool self.old }
     {
         match (self.next.take(), ending) {
@@ -113,7 +122,7 @@ impl SlotCell {
     }
 
     /// Draft and prepared value are gone. Where the latter is to be settled, it was put in place.
-    pub(crate) fn end(&mut self, ending: Ending)
+    pub fn end(&mut self, ending: Ending)
         ensures { self.new ≡ (done_by ending).slot self.old }
     {
         if ending == Ending::Settle && self.register.prepared().is_some() {

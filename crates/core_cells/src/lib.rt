@@ -19,4 +19,5 @@ pub use lent::{end_all, held_node, held_pool, prepare_node, prepare_pool};
 pub use names::{CellName, Ending};
 pub use owned::OwnedCells;
 pub use pool::PoolCell;
+pub use slice::two_of;
 pub use step::{PairStep, SlotStep, on_slot, on_two};

@@ -58,8 +58,8 @@ impl PoolCell {
         self.numbers.least()
     }
 
-    /// The least free slot, if one is free.
-    pub fn least_slot(&self) -> Option<u8>
+    /// The least free slot; none exactly where no slot is free.
+    pub fn least_free_slot(&self) -> Option<u8>
         ensures { MatchOption result ((t : ℕ) → is_listed self.now.slots t ≡ false) (λ t. IsLeastListed self.now.slots t) }
     {
         self.slots.least()

@@ -66,7 +66,7 @@ impl PairStep for Exchange {
 fn new_cells_are_empty(rt: HostRuntime) {
     let mut cells = OwnedCells::open(rt.alloc(), &shape()).expect(&rt, "memory");
     assert_eq!(rt; held_node(&mut cells, 1).held(), 0);
-    assert_eq!(rt; held_pool(&mut cells).least_slot(), Some(0));
+    assert_eq!(rt; held_pool(&mut cells).least_free_slot(), Some(0));
     assert_eq!(rt; on_slot(&mut cells, 3, Begin { number: 2 }), 0);
 }
 
@@ -101,7 +101,7 @@ fn lesser_numbers_are_taken_first(rt: HostRuntime) {
     pool.take_number(0);
     pool.take_number(2);
     assert_eq!(rt; pool.least_number(), Some(1));
-    assert_eq!(rt; pool.least_slot(), Some(0));
+    assert_eq!(rt; pool.least_free_slot(), Some(0));
     let copied = pool.copy();
     pool.take_number(1);
     pool.take_number(3);
@@ -111,9 +111,9 @@ fn lesser_numbers_are_taken_first(rt: HostRuntime) {
     assert_eq!(rt; pool.least_number(), Some(2));
     assert_eq!(rt; copied.least_number(), Some(1));
     pool.take_slot(0);
-    assert_eq!(rt; pool.least_slot(), Some(1));
+    assert_eq!(rt; pool.least_free_slot(), Some(1));
     pool.free_slot(0);
-    assert_eq!(rt; pool.least_slot(), Some(0));
+    assert_eq!(rt; pool.least_free_slot(), Some(0));
 }
 
 #[test]

@@ -11,7 +11,8 @@ use Rattle.cqc_client.specs.declared.stops.Stop.{Stop}
 use Rattle.cqc_client.specs.declared.stops.Stop.TheVariants as stop
 use Rattle.cqc_client.specs.Replies.{BeginsReply, IsReply, IsPartOfReply, IsStrange}
 use Rattle.cqc_client.specs.Stops.{FillsDue, StopsDue}
-use Rattle.cqc_client.proofs.Replies.{header_again, body_short}
+use Rattle.cqc_wire.proofs.ReadBack.{body_short}
+use Rattle.cqc_client.proofs.Replies.{header_again}
 
 -- less than a header is a part of a reply
 pub front_part : (app : ℕ) (bytes : List ℕ) → length bytes < 8 → IsPartOfReply app bytes

@@ -10,7 +10,7 @@ use Rattle.cqc_model.specs.declared.Reply.TheVariants as reply
 use Rattle.cqc_model.specs.Wire.{reply_kind, reply_body, reply_size}
 use Rattle.cqc_model.specs.Ranges.{FitsReply, FitsPair}
 use Rattle.cqc_client.specs.Replies.{reply_header, BeginsReply}
-use Rattle.cqc_client.proofs.Replies.{size_of}
+use Rattle.cqc_wire.proofs.ReadBack.{size_of}
 
 -- a reply of a type, with a length
 pub record Kind (k n : ℕ) : Type 0 where

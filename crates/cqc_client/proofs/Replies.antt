@@ -1,14 +1,13 @@
 -- The bytes of a reply, its header, and how bytes of replies are cut: `cut_reply` is the main result.
-use Rattle.std.proofs.Common.{◌≡◌, ℕ, zero, suc, ◌<◌, ◌^◌, List, [], ◌∷◌, ◌++◌, length, get_or, true, false, Some, refl, sym, ap, ◌∙◌, arith, append_assoc}
+use Rattle.std.proofs.Common.{◌≡◌, ℕ, zero, suc, ◌<◌, ◌^◌, List, [], ◌∷◌, ◌++◌, length, get_or, refl, sym, ap, ◌∙◌, arith, append_assoc}
 use Rattle.std.proofs.lemmas.Nat.{be_bytes_2, be_bytes_4, from_be_bytes-to_be_bytes_2, from_be_bytes-to_be_bytes_4}
 use Rattle.std.specs.Int.{w16, w32, to_be_bytes}
 use Rattle.cqc_model.specs.declared.Header.{Header}
-use Rattle.cqc_model.specs.declared.Fault.TheVariants as fault
 use Rattle.cqc_model.specs.declared.Reply.{Reply}
-use Rattle.cqc_model.specs.declared.Reply.TheVariants as reply
-use Rattle.cqc_model.specs.Wire.{number_at, long_number_at, header_of, header_bytes, spell, reply_kind, reply_body, reply_size}
+use Rattle.cqc_model.specs.Wire.{number_at, long_number_at, header_of, header_bytes, spell, reply_body}
 use Rattle.cqc_model.specs.Plan.{with_message, cut}
 use Rattle.cqc_model.proofs.Cuts.{cut_message, message_of}
+use Rattle.cqc_wire.proofs.ReadBack.{body_short}
 use Rattle.cqc_client.specs.Replies.{reply_header, as_message}
 
 two_bytes : (a b : ℕ) → a < 256 → b < 256 → (i : ℕ) → get_or (a ∷ b ∷ []) i 0 < 256
@@ -35,31 +34,6 @@ spelled_again _ l small = absurd (omega arith)
 -- a header is read from its bytes
 pub header_again : (h : Header) → h.app < 2 ^ 16 → h.length < 2 ^ 32 → header_of (header_bytes h) ≡ h
 header_again h a l = rw (from_be_bytes-to_be_bytes_2 h.app a, from_be_bytes-to_be_bytes_4 h.length l) refl
-
--- a reply has the length that its type says
-pub size_of : (r : Reply) → reply_size (reply_kind r) ≡ Some (length (reply_body r))
-size_of reply.Hello = refl
-size_of reply.Done = refl
-size_of (reply.New id) = refl
-size_of (reply.Received id) = refl
-size_of (reply.Outcome true) = refl
-size_of (reply.Outcome false) = refl
-size_of (reply.Pair id info) = refl
-size_of (reply.Error fault.General) = refl
-size_of (reply.Error fault.NoQubit) = refl
-size_of (reply.Error fault.Unsupported) = refl
-size_of (reply.Error fault.Timeout) = refl
-size_of (reply.Error fault.Unknown) = refl
-
-pub body_short : (r : Reply) → length (reply_body r) < 2 ^ 32
-body_short reply.Hello = omega arith
-body_short reply.Done = omega arith
-body_short (reply.New id) = omega arith
-body_short (reply.Received id) = omega arith
-body_short (reply.Outcome true) = omega arith
-body_short (reply.Outcome false) = omega arith
-body_short (reply.Pair id info) = omega arith
-body_short (reply.Error f) = omega arith
 
 -- the header in front of a reply's bytes
 pub header_of_reply : (app : ℕ) (r : Reply) → app < 2 ^ 16 → header_of (header_bytes (reply_header app r)) ≡ reply_header app r

@@ -49,36 +49,20 @@ only_sent stop.NotSent m left left_new held held_new out now e f = record {
   nothing = refl;
   exchanges = record { missing = f.1; sent = f.3; some = f.4; read = refl; printed = refl };
 }
-only_sent stop.Ended m left left_new held held_new out now e f = absurd f
-only_sent stop.NotRead m left left_new held held_new out now e f = absurd f
-only_sent stop.Spent m left left_new held held_new out now e f = absurd f
-only_sent (stop.Strange kind) m left left_new held held_new out now e f = absurd f
-only_sent stop.NotPrinted m left left_new held held_new out now e f = absurd f
+only_sent _ m left left_new held held_new out now e f = absurd f
 
 -- no other count is touched
 pub only_reads : (s : Stop) (m : Sending) (held held_new : Option (List ℕ)) (a b : ℕ) → a ≤ b → Sends (Err s) m held held_new → StopReads s a b
 only_reads stop.NotSent m held held_new a b h f = h
-only_reads stop.Ended m held held_new a b h f = absurd f
-only_reads stop.NotRead m held held_new a b h f = absurd f
-only_reads stop.Spent m held held_new a b h f = absurd f
-only_reads (stop.Strange kind) m held held_new a b h f = absurd f
-only_reads stop.NotPrinted m held held_new a b h f = absurd f
+only_reads _ m held held_new a b h f = absurd f
 
 pub only_prints : (s : Stop) (m : Sending) (held held_new : Option (List ℕ)) (a b : ℕ) → a ≤ b → Sends (Err s) m held held_new → StopPrints s a b
 only_prints stop.NotSent m held held_new a b h f = h
-only_prints stop.Ended m held held_new a b h f = absurd f
-only_prints stop.NotRead m held held_new a b h f = absurd f
-only_prints stop.Spent m held held_new a b h f = absurd f
-only_prints (stop.Strange kind) m held held_new a b h f = absurd f
-only_prints stop.NotPrinted m held held_new a b h f = absurd f
+only_prints _ m held held_new a b h f = absurd f
 
 -- all of it was sent, and replies were heard
 pub exchanged : (r : Result (Unit {0}) Stop) (m : Sending) (said : Said) (left : Option (List ℕ)) (now : ℕ) → said.sent ≡ spell_message m.head m.list
     → Hears r (app_of m) said.read said.printed left now → Exchanges r m said left now
 exchanged (Ok u) m said left now e h = record { sent = e; hears = h }
-exchanged (Err stop.Ended) m said left now e h = record { sent = e; hears = h }
-exchanged (Err stop.NotRead) m said left now e h = record { sent = e; hears = h }
-exchanged (Err stop.Spent) m said left now e h = record { sent = e; hears = h }
-exchanged (Err (stop.Strange kind)) m said left now e h = record { sent = e; hears = h }
 exchanged (Err stop.NotSent) m said left now e h = absurd (h.stops.0)
-exchanged (Err stop.NotPrinted) m said left now e h = record { sent = e; hears = h }
+exchanged (Err _) m said left now e h = record { sent = e; hears = h }

@@ -58,16 +58,32 @@ fn sink(alloc: Global) -> Result<MemLink, Fail> {
     link_of(alloc, &[], 1, &[], &[])
 }
 
+// A talk that ended: its answer, and both sides as it left them.
+#[derive(Drop)]
+struct Finished {
+    answer: Talked,
+    link: MemLink,
+    out: MemLink,
+}
+
+// A talk over a link that has these replies, at most `piece` bytes at a time.
+fn ended(alloc: Global, text: &str, replies: &[u8], piece: u32) -> Result<Finished, Fail>
+    requires { 0 < piece }
+{
+    let mut link = link_of(alloc, replies, piece, &[], &[])?;
+    let mut out = sink(alloc)?;
+    let answer = talked(alloc, text, &mut link, &mut out)?;
+    Ok(Finished { answer, link, out })
+}
+
 #[test]
 fn replies_are_printed_up_to_done(rt: HostRuntime) -> Result<(), Fail> {
     let alloc = rt.alloc();
     for piece in [1, 5, 64] {
-        let mut link = link_of(alloc, &REPLIES, piece, &[], &[])?;
-        let mut out = sink(alloc)?;
-        let answer = talked(alloc, SCRIPT, &mut link, &mut out)?;
-        assert_eq!(rt; answer, Talked::Done { messages: 1 });
-        assert!(rt; link.written() == SENT.as_slice());
-        assert!(rt; out.written() == b"new 0\nout 1\ndone\n".as_slice());
+        let talk = ended(alloc, SCRIPT, &REPLIES, piece)?;
+        assert_eq!(rt; talk.answer, Talked::Done { messages: 1 });
+        assert!(rt; talk.link.written() == SENT.as_slice());
+        assert!(rt; talk.out.written() == b"new 0\nout 1\ndone\n".as_slice());
     }
     Ok(())
 }
@@ -76,46 +92,34 @@ fn replies_are_printed_up_to_done(rt: HostRuntime) -> Result<(), Fail> {
 fn link_that_ends_early_cuts_the_talk(rt: HostRuntime) -> Result<(), Fail> {
     let alloc = rt.alloc();
     for have in [10, 11, 18] {
-        let mut link = link_of(alloc, &REPLIES[..have], 64, &[], &[])?;
-        let mut out = sink(alloc)?;
-        let answer = talked(alloc, SCRIPT, &mut link, &mut out)?;
-        assert_eq!(rt; answer, Talked::Cut { message: 0 });
-        assert!(rt; link.written() == SENT.as_slice());
-        assert!(rt; out.written() == b"new 0\n".as_slice());
+        let talk = ended(alloc, SCRIPT, &REPLIES[..have], 64)?;
+        assert_eq!(rt; talk.answer, Talked::Cut { message: 0 });
+        assert!(rt; talk.link.written() == SENT.as_slice());
+        assert!(rt; talk.out.written() == b"new 0\n".as_slice());
     }
     Ok(())
 }
 
 #[test]
 fn reply_of_another_app_is_strange_before_its_body(rt: HostRuntime) -> Result<(), Fail> {
-    let alloc = rt.alloc();
-    let mut link = link_of(alloc, &[2, 10, 0, 6, 0, 0, 0, 2], 64, &[], &[])?;
-    let mut out = sink(alloc)?;
-    let answer = talked(alloc, SCRIPT, &mut link, &mut out)?;
-    assert_eq!(rt;
-        answer,
-        Talked::Strange {
-            message: 0,
-            kind: 10
-        }
-    );
-    assert!(rt; out.written() == b"".as_slice());
+    let talk = ended(rt.alloc(), SCRIPT, &[2, 10, 0, 6, 0, 0, 0, 2], 64)?;
+    let strange = Talked::Strange {
+        message: 0,
+        kind: 10,
+    };
+    assert_eq!(rt; talk.answer, strange);
+    assert!(rt; talk.out.written() == b"".as_slice());
     Ok(())
 }
 
 #[test]
 fn outcome_of_two_is_strange(rt: HostRuntime) -> Result<(), Fail> {
-    let alloc = rt.alloc();
-    let mut link = link_of(alloc, &[2, 7, 0, 7, 0, 0, 0, 1, 2], 64, &[], &[])?;
-    let mut out = sink(alloc)?;
-    let answer = talked(alloc, SCRIPT, &mut link, &mut out)?;
-    assert_eq!(rt;
-        answer,
-        Talked::Strange {
-            message: 0,
-            kind: 7
-        }
-    );
+    let talk = ended(rt.alloc(), SCRIPT, &[2, 7, 0, 7, 0, 0, 0, 1, 2], 64)?;
+    let strange = Talked::Strange {
+        message: 0,
+        kind: 7,
+    };
+    assert_eq!(rt; talk.answer, strange);
     Ok(())
 }
 
@@ -124,51 +128,39 @@ fn each_side_may_fail(rt: HostRuntime) -> Result<(), Fail> {
     let alloc = rt.alloc();
     let mut link = link_of(alloc, &REPLIES, 10, &[1], &[])?;
     let mut out = sink(alloc)?;
-    assert_eq!(rt;
-        talked(alloc, SCRIPT, &mut link, &mut out)?,
-        Talked::LinkRead
-    );
+    let unread = talked(alloc, SCRIPT, &mut link, &mut out)?;
+    assert_eq!(rt; unread, Talked::LinkRead);
     let mut link = link_of(alloc, &REPLIES, 10, &[], &[0])?;
-    assert_eq!(rt;
-        talked(alloc, SCRIPT, &mut link, &mut out)?,
-        Talked::LinkWrite
-    );
+    let unsent = talked(alloc, SCRIPT, &mut link, &mut out)?;
+    assert_eq!(rt; unsent, Talked::LinkWrite);
     let mut link = link_of(alloc, &REPLIES, 10, &[], &[])?;
     let mut out = link_of(alloc, &[], 1, &[], &[1])?;
-    assert_eq!(rt;
-        talked(alloc, SCRIPT, &mut link, &mut out)?,
-        Talked::OutWrite
-    );
+    let unprinted = talked(alloc, SCRIPT, &mut link, &mut out)?;
+    assert_eq!(rt; unprinted, Talked::OutWrite);
     assert!(rt; out.written() == b"new 0\n".as_slice());
     Ok(())
 }
 
 #[test]
 fn next_message_is_sent_after_an_error(rt: HostRuntime) -> Result<(), Fail> {
-    let alloc = rt.alloc();
     let replies = [2, 25, 0, 7, 0, 0, 0, 0, 2, 0, 0, 7, 0, 0, 0, 0];
-    let mut link = link_of(alloc, &replies, 64, &[], &[])?;
-    let mut out = sink(alloc)?;
-    let answer = talked(alloc, "app 7\nmeasure 3\ngo\nhello\n", &mut link, &mut out)?;
-    assert_eq!(rt; answer, Talked::Done { messages: 2 });
+    let talk = ended(rt.alloc(), "app 7\nmeasure 3\ngo\nhello\n", &replies, 64)?;
+    assert_eq!(rt; talk.answer, Talked::Done { messages: 2 });
     let sent = [2, 1, 0, 7, 0, 0, 0, 4, 0, 3, 2, 1, 2, 0, 0, 7, 0, 0, 0, 0];
-    assert!(rt; link.written() == sent.as_slice());
-    assert!(rt; out.written() == b"error 25\nhello\n".as_slice());
+    assert!(rt; talk.link.written() == sent.as_slice());
+    assert!(rt; talk.out.written() == b"error 25\nhello\n".as_slice());
     Ok(())
 }
 
 #[test]
 fn pair_is_printed_with_its_number(rt: HostRuntime) -> Result<(), Fail> {
-    let alloc = rt.alloc();
     let replies = [
         2, 6, 0, 0, 0, 0, 0, 42, 0, 3, 127, 0, 0, 1, 34, 117, 0, 0, 127, 0, 0, 1, 34, 118, 0, 0, 0,
         1, 0, 2, 0, 0, 0, 0, 0, 0, 0, 0, 0, 0, 0, 0, 0, 0, 0, 0, 0, 0, 0, 0, 2, 4, 0, 0, 0, 0, 0,
         0,
     ];
-    let mut link = link_of(alloc, &replies, 7, &[], &[])?;
-    let mut out = sink(alloc)?;
-    let answer = talked(alloc, "epr 0 0 127.0.0.1 8822\ngo\n", &mut link, &mut out)?;
-    assert_eq!(rt; answer, Talked::Done { messages: 1 });
-    assert!(rt; out.written() == b"epr 3 65538\ndone\n".as_slice());
+    let talk = ended(rt.alloc(), "epr 0 0 127.0.0.1 8822\ngo\n", &replies, 7)?;
+    assert_eq!(rt; talk.answer, Talked::Done { messages: 1 });
+    assert!(rt; talk.out.written() == b"epr 3 65538\ndone\n".as_slice());
     Ok(())
 }

@@ -9,3 +9,4 @@ pub mod Wholes
 pub mod Sayings
 pub mod Finishes
 pub mod MemoryEnds
+pub mod SharedCalls

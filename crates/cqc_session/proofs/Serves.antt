@@ -1,6 +1,6 @@
 -- A session over a core, call after call.
 use Rattle.std.proofs.Common.{◌≡◌, ℕ, ◌+◌, ◌<◌, List, [], ◌∷◌, ◌++◌, length, Option, Some, None, Result, Ok, Err, Bool, false, refl, sym, ap, ◌∙◌, arith, subst, inr}
-use Rattle.std.specs.Prelude.{MatchResult}
+use Rattle.std.specs.Prelude.{MatchResult, OnOk}
 use Rattle.std.proofs.lemmas.List.{append-nil, append_assoc}
 use Rattle.cqc_model.specs.declared.Command.{Command}
 use Rattle.network_model.specs.declared.Call.{Call}
@@ -332,3 +332,9 @@ module _ (connection : Connection) (cap : ℕ) (left mid rest_left later held sa
       serving_at connection cap left rest_left later held wrote t.budget now old new w stays paid
       (answer_goes connection cap left rest_left held gave wrote t.budget old between_entries new seen capacity t.work w call done asks did
       (subst (λ (p : Connection). GoesOn p t.work call gave wrote done w) (kept ∙ same) e))
+
+-- a session that goes on has had a reply
+pub goes_ok : {P : Type 0} (connection : Connection) (old : Work) (call : Call) (held wrote : Option (List ℕ)) (done : Result CoreReply JournalFull) (new : Work)
+    → OnOk done P → GoesOn connection old call held wrote done new → P
+goes_ok connection old call held wrote (Ok r) new p goes = p
+goes_ok connection old call held wrote (Err e) new p goes = absurd goes

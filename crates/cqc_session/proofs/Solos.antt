@@ -1,5 +1,5 @@
 -- A session over a core with a journal: what each call did to the journal and to the dice.
-use Rattle.std.proofs.Common.{◌≡◌, ℕ, ◌+◌, ◌<◌, ◌≤◌, List, [], ◌∷◌, ◌++◌, length, Result, Ok, Err, sym, ap, subst, ◌∙◌, arith, length-append, append_assoc}
+use Rattle.std.proofs.Common.{◌≡◌, ℕ, ◌+◌, ◌<◌, ◌≤◌, List, [], ◌∷◌, ◌++◌, length, Option, None, Some, Result, Ok, Err, refl, sym, ap, subst, ◌∙◌, arith, length-append, append_assoc}
 use Rattle.std.specs.Prelude.{MatchResult, MatchOption}
 use Rattle.std.proofs.lemmas.List.{append-nil}
 use Rattle.network_model.specs.Network.{Shape}
@@ -13,6 +13,8 @@ use Rattle.factored_core.specs.Core.{Journal, IsExecuted, WasFull}
 use Rattle.factored_core.specs.Ready.{IsAllowedCall}
 use Rattle.cqc_session.specs.State.{State, Waits}
 use Rattle.cqc_session.specs.Serving.{WordedAfter}
+use Rattle.cqc_session.specs.Solo.{CoreAndDice, HasServed}
+use Rattle.cqc_session.specs.SoloLaws.{word_is}
 use Rattle.cqc_session.proofs.Serves.{CoreDid}
 
 -- what a call did: the dice moved on by the word that was drawn
@@ -83,8 +85,43 @@ asked_allowed shape first s call p w same is node = record {
   instr = w.allowed;
 }
 
--- the word of the dice, of the connection that they were begun with
-pub word_is : (word : List ℕ → ℕ → ℕ → ℕ → ℕ) (key first : List ℕ) (seat serial seat' serial' taken : ℕ) → key ≡ first → seat ≡ seat' → serial ≡ serial'
-    → word key seat serial taken ≡ word first seat' serial' taken
-word_is word key first seat serial seat' serial' taken a b c =
-    ap (λ k. word k seat serial taken) a ∙ ap (λ s. word first s serial taken) b ∙ ap (λ s. word first seat' s taken) c
+-- one call
+pub served_one : (word : List ℕ → ℕ → ℕ → ℕ → ℕ) (call : Call) (done : Result CoreReply JournalFull) (a b : CoreAndDice) → b.key ≡ a.key → b.seat ≡ a.seat
+    → b.serial ≡ a.serial → Executed call done (word a.key a.seat a.serial a.taken) a.taken b.taken a.journal b.journal → HasServed word a b
+served_one word call done a b key seat serial x = record {
+  journal = same_journal call done _ _ _ a.journal a.journal b.journal x refl;
+  key = key;
+  seat = seat;
+  serial = serial;
+  worded = λ first w. worded_on (word a.key a.seat a.serial) call done _ _ _ first a.journal b.journal refl w x;
+}
+
+-- no more words than entries, still
+pub taken_still : (call : Call) (done : Result CoreReply JournalFull) (next before now : ℕ) (old new : Journal) → before ≤ length old.entries
+    → Executed call done next before now old new → now ≤ length new.entries
+taken_still call (Ok r) next before now old new few x = grown x.word x.drawn
+  where
+    e : Entry
+    e = record { call = call; word = x.word; reply = r }
+
+    longer : length new.entries ≡ length old.entries + 1
+    longer = ap (λ (j : Journal). length j.entries) x.is ∙ length-append old.entries (e ∷ [])
+
+    grown : (w : Option ℕ) → MatchOption w (now ≡ before) (λ v. (v ≡ next) × (now ≡ before + 1)) → now ≤ length new.entries
+    grown None d = omega (arith, d, longer, few)
+    grown (Some v) d = omega (arith, d.1, longer, few)
+taken_still call (Err f) next before now old new few x = omega (arith, x.1, ap (λ (j : Journal). length j.entries) x.0.stays, few)
+
+-- the words of a connection that was begun before its calls
+pub worded_since : (word : List ℕ → ℕ → ℕ → ℕ → ℕ) (key : List ℕ) (seat serial : ℕ) (begun now : CoreAndDice) → HasServed word begun now → begun.key ≡ key
+    → begun.seat ≡ seat → begun.serial ≡ serial → begun.taken ≡ 0 → WordedAfter (λ k. word key seat serial k) begun.journal.entries now.journal.entries now.taken
+worded_since word key seat serial begun now served same_key same_seat same_serial none =
+    subst (λ (ws : ℕ → ℕ). WordedAfter (λ k. ws k) begun.journal.entries now.journal.entries now.taken) (word_is word begun.key key begun.seat begun.serial seat serial same_key same_seat same_serial)
+    (served.worded begun.journal.entries (worded_none (word begun.key begun.seat begun.serial) begun.journal.entries begun.taken none))
+
+-- the same of what a reference holds in the end
+pub worded_as : {D : Type 0} (words : ℕ → ℕ) (taken : D → ℕ) (first : List Entry) (solo solo' : Journal) (dice dice' : D) → solo' ≡ solo → dice' ≡ dice
+    → WordedAfter words first solo.entries (taken dice) → WordedAfter words first solo'.entries (taken dice')
+worded_as words taken first solo solo' dice dice' same_solo same_dice w =
+    subst (λ (j : Journal). WordedAfter words first j.entries (taken dice')) (sym same_solo)
+    (subst (λ d. WordedAfter words first solo.entries (taken d)) (sym same_dice) w)

@@ -3,3 +3,5 @@ pub mod Session
 pub mod Parts
 pub mod State
 pub mod Serving
+pub mod Solo
+pub mod SoloLaws

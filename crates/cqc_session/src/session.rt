@@ -72,6 +72,13 @@ impl Session {
         self.seat
     }
 
+    /// The node of its connections.
+    pub fn node(&self) -> u8
+        ensures { result ≡ self.now.connection.node }
+    {
+        self.node
+    }
+
     /// The serial of the connection that was begun last.
     pub fn serial(&self) -> u16
         ensures { result ≡ self.now.connection.serial }

@@ -1,39 +1,57 @@
 // A whole session over a core with a journal.
-ghost use Rattle.std.specs.Prelude.{◌≡◌, ◌≤◌, ◌<◌, length, MatchResult};
-ghost use Rattle.factored_core.specs.Core.{IsExecuted, WasFull};
-ghost use Rattle.factored_core.specs.Ready.{IsAllowedCall};
+ghost use Rattle.std.specs.Prelude.{◌≡◌, ◌≤◌, ◌<◌, length};
 ghost use Rattle.cqc_session.specs.declared.stage.Stage.TheVariants.{Closed};
 ghost use Rattle.cqc_session.specs.Session.{EndCause};
 ghost use Rattle.cqc_session.specs.Serving.{Served, WordedAfter};
 ghost use Rattle.cqc_session.specs.State.{begun};
 
+use crate::over_core::{Core, serve};
 use crate::session::Session;
-use crate::turn::Turn;
 use factored_core::Solo;
 use network_model::{Call, CoreReply, JournalFull};
 use qron_link::{Dice, Link};
 use session_model::Ending;
 
-// Executes a call. No more words were taken than there are entries, so the dice have more.
-fn execute<D: Dice>(solo: &mut Solo, call: &Call, dice: &mut D) -> Result<CoreReply, JournalFull>
-    requires allowed { IsAllowedCall solo.old.shape call.now }
-    requires taken { D.taken dice.old ≤ length solo.old.entries }
-    ensures step { MatchResult result
-        (λ reply. IsExecuted call.now reply (D.word (D.key dice.old) (D.begun_seat dice.old) (D.begun_serial dice.old) (D.taken dice.old)) (D.taken dice.old) (D.taken dice.new) solo.old solo.new)
-        (λ fault. WasFull fault solo.old solo.new × (dice.new ≡ dice.old)) }
-    ensures key { D.key dice.new ≡ D.key dice.old }
-    ensures seat { D.begun_seat dice.new ≡ D.begun_seat dice.old }
-    ensures serial { D.begun_serial dice.new ≡ D.begun_serial dice.old }
-{
-    solo_limits(solo);
-    solo.execute(call, dice)
+// A core with a journal, and the dice of the connection that it serves at a node.
+#[derive(Drop)]
+struct WithDice<'a, D: Dice> {
+    solo: &'a mut Solo,
+    dice: &'a mut D,
+    // Contracts alone ask for it.
+    node: u8,
 }
 
-// What the type of a core says of its entries.
-fn solo_limits(solo: &Solo)
-    ensures { length solo.now.entries ≤ 1048576 }
-{
-    let _entries = solo.entries();
+impl<D: Dice> Core for WithDice<'_, D> {
+    ghost use Rattle.std.specs.Prelude.{◌≡◌, ◌≤◌, ◌<◌, length};
+    ghost use Rattle.std.proofs.Common.{refl, ◌∙◌};
+    ghost use Rattle.cqc_session.specs.Solo.{HasServed};
+    ghost use Rattle.cqc_session.specs.SoloLaws.{served_nothing, served_on};
+
+    ghost connection = { λ c. record { seat = D.begun_seat c.dice.now; serial = D.begun_serial c.dice.now; node = c.node } };
+
+    ghost own = { λ c. c.solo.now.entries };
+
+    ghost seen = { λ c. length c.solo.now.entries };
+
+    ghost capacity = { λ c. c.solo.now.capacity };
+
+    // No more words were taken than there are entries, so the dice have more.
+    ghost ready = { λ c. (c.node < length c.solo.now.shape.places) × (D.taken c.dice.now ≤ length c.solo.now.entries) };
+
+    ghost was_led = { λ a b.
+        HasServed D.word
+        (record { journal = a.solo.now; key = D.key a.dice.now; seat = D.begun_seat a.dice.now; serial = D.begun_serial a.dice.now; taken = D.taken a.dice.now })
+        (record { journal = b.solo.now; key = D.key b.dice.now; seat = D.begun_seat b.dice.now; serial = D.begun_serial b.dice.now; taken = D.taken b.dice.now })
+        × (b.solo.ghost_name ≡ a.solo.ghost_name) × (b.dice.ghost_name ≡ a.dice.ghost_name) };
+
+    ghost leads_nowhere = { λ a. (served_nothing D.word _, refl, refl) };
+
+    ghost leads_on = { λ a b c x y. (served_on D.word _ _ _ x.0 y.0, y.1 ∙ x.1, y.2 ∙ x.2) };
+
+    fn execute(&mut self, call: &Call) -> Result<CoreReply, JournalFull> {
+        self.solo.facts();
+        self.solo.execute(call, self.dice)
+    }
 }
 
 /// Begins the dice and serves a connection that has begun to its end. RECV and EPR_RECV that find no qubit are
@@ -63,14 +81,7 @@ pub fn serve_solo<L: Link, D: Dice>(
     ensures cap { session.new.cap ≡ session.old.cap }
 {
     dice.begin(session.seat(), session.serial());
-    loop {
-        let call = match session.poll(link) {
-            Turn::End(ending) => return ending,
-            Turn::Execute(call) => call,
-        };
-        let done = execute(solo, &call, dice);
-        if let Some(ending) = session.answer(link, done) {
-            return ending;
-        }
-    }
+    let node = session.node();
+    let mut core = WithDice { solo, dice, node };
+    serve(&mut core, session, link)
 }

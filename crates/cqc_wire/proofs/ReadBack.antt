@@ -12,7 +12,7 @@ use Rattle.cqc_model.specs.Ranges.{FitsReply}
 use Rattle.cqc_model.proofs.Prefixes.{read_again}
 
 -- a reply has the length that its type says
-size_of : (r : Reply) → reply_size (reply_kind r) ≡ Some (length (reply_body r))
+pub size_of : (r : Reply) → reply_size (reply_kind r) ≡ Some (length (reply_body r))
 size_of reply.Hello = refl
 size_of reply.Done = refl
 size_of (reply.New id) = refl
@@ -26,15 +26,16 @@ size_of (reply.Error fault.Unsupported) = refl
 size_of (reply.Error fault.Timeout) = refl
 size_of (reply.Error fault.Unknown) = refl
 
-short : (r : Reply) → length (reply_body r) < 2 ^ 32
-short reply.Hello = omega arith
-short reply.Done = omega arith
-short (reply.New id) = omega arith
-short (reply.Received id) = omega arith
-short (reply.Outcome true) = omega arith
-short (reply.Outcome false) = omega arith
-short (reply.Pair id info) = omega arith
-short (reply.Error f) = omega arith
+-- its length fits a header
+pub body_short : (r : Reply) → length (reply_body r) < 2 ^ 32
+body_short reply.Hello = omega arith
+body_short reply.Done = omega arith
+body_short (reply.New id) = omega arith
+body_short (reply.Received id) = omega arith
+body_short (reply.Outcome true) = omega arith
+body_short (reply.Outcome false) = omega arith
+body_short (reply.Pair id info) = omega arith
+body_short (reply.Error f) = omega arith
 
 -- what a header and the bytes behind it are, where they are a reply's
 pub record ReadsAs (h : Header) (body : List ℕ) (r : Reply) : Type 0 where
@@ -54,7 +55,7 @@ reads_as h body r long fits e =
       version = ap (λ (x : List ℕ). slice_index x 0) e;
       kind = sym kind;
       text = sym text;
-      size = sym (from_be_bytes-to_be_bytes_4 h.length long) ∙ size ∙ from_be_bytes-to_be_bytes_4 (length (reply_body r)) (short r)
+      size = sym (from_be_bytes-to_be_bytes_4 h.length long) ∙ size ∙ from_be_bytes-to_be_bytes_4 (length (reply_body r)) (body_short r)
           ∙ ap (λ (x : List ℕ). length x) (sym text);
       sized = ap reply_size kind ∙ size_of r ∙ ap (λ (x : List ℕ). Some (length x)) (sym text);
       is = ap (λ k. reply_of k body) kind ∙ ap (reply_of (reply_kind r)) (text ∙ sym (append-nil (reply_body r))) ∙ read_again r [] fits;

@@ -42,7 +42,7 @@ use Rattle.factored_core.proofs.Legal.{no_gate_is_small, measurement_draws, repl
 use Rattle.factored_core.proofs.Locals.{own_touched}
 use Rattle.factored_core.proofs.NodeSteps.{keeps_nodes, node_removed, node_kept, FitsAfter as NodeFitsAfter}
 use Rattle.factored_core.proofs.Operands.{none_refuses, own_fits, operand_is, operand_lives, own_number_is, spot_home, spot_fits}
-use Rattle.factored_core.proofs.PoolSteps.{pool_removed_alone, pool_removed_beside, pool_refreshed_alone, pool_refreshed_beside, least_slot_is, slot_left_beside}
+use Rattle.factored_core.proofs.PoolSteps.{pool_removed_alone, pool_removed_beside, pool_refreshed_alone, pool_refreshed_beside, least_free_slot_is, slot_left_beside}
 
 some_same : {A : Type 0} (a b : A) → Some a ≡ Some b → a ≡ b
 some_same a b e = ap (λ o. unwrap_or o b) e
@@ -234,7 +234,7 @@ module _ (shape : Shape) (c : Call) (cs : Cells) (own : Node) (m : Measured) (ha
     pool_same v stays e = pool_refreshed_alone shape s home c m.word (w.now).numbers (w.now).slots (w.now).pairs standing.sound standing.housed (fit.pool w there) live (Measure after m.told) v is (leaves v stays) (alone_is ∙ e)
 
     slot_free : (slot : ℕ) → IsLeastListed (w.now).slots slot → slot ≡ least_free (used_slots s.live home)
-    slot_free slot least = least_slot_is shape s home (w.now).numbers (w.now).slots (w.now).pairs standing.sound (fit.pool w there) slot least.listed least.least
+    slot_free slot least = least_free_slot_is shape s home (w.now).numbers (w.now).slots (w.now).pairs standing.sound (fit.pool w there) slot least.listed least.least
 
     pool_less : (v : Bool) → left_value after m.outcome ≡ Some v → m.alone ≡ false → (slot : ℕ) → IsLeastListed (w.now).slots slot → (p : Pool) → IsSlotTaken slot w.now p → PoolFits p
     pool_less v stays e slot least p less = pool_with (w.now).numbers p.slots p

@@ -84,8 +84,8 @@ module _ (shape : Shape) (s : Network) (home : ℕ → ℕ) (numbers slots : Lis
   pub least_number_is : (n : ℕ) → is_listed numbers n ≡ true → ((m : ℕ) → m < n → is_listed numbers m ≡ false) → n ≡ least_free s.live
   least_number_is n listed least = least_is_least_free (length shape.places * shape.room) s.live numbers fits.numbers_free n listed least
 
-  pub least_slot_is : (n : ℕ) → is_listed slots n ≡ true → ((m : ℕ) → m < n → is_listed slots m ≡ false) → n ≡ least_free (used_slots s.live home)
-  least_slot_is n listed least = least_is_least_free (length shape.places * shape.room) (used_slots s.live home) slots fits.slots_free n listed least
+  pub least_free_slot_is : (n : ℕ) → is_listed slots n ≡ true → ((m : ℕ) → m < n → is_listed slots m ≡ false) → n ≡ least_free (used_slots s.live home)
+  least_free_slot_is n listed least = least_is_least_free (length shape.places * shape.room) (used_slots s.live home) slots fits.slots_free n listed least
 
   -- the numbers beside the first that was taken
   beside_first : (n : ℕ) (mid : List ℕ) → ((q : ℕ) → is_listed mid q ≡ (is_listed numbers q && not (q == n))) → AreFree (length shape.places * shape.room) (n ∷ s.live) mid

@@ -23,7 +23,7 @@ use Rattle.factored_core.specs.declared.new_qubits.Vacancy.{Vacancy}
 use Rattle.factored_core.proofs.Changed.{there_is, some_there}
 use Rattle.factored_core.proofs.Loads.{same_load}
 use Rattle.factored_core.proofs.Operands.{own_fits}
-use Rattle.factored_core.proofs.PoolSteps.{least_number_is, least_slot_is, number_left, slot_left}
+use Rattle.factored_core.proofs.PoolSteps.{least_number_is, least_free_slot_is, number_left, slot_left}
 
 -- what takes a slot touches the pool
 pub slot_from_pool : (k : Kind) → takes_slot k ≡ true → may_touch_pool k ≡ true
@@ -84,7 +84,7 @@ module _ (shape : Shape) (c : Call) (cs : Cells) (own : Node) (ready : IsReady s
           vacant_number = least_number_is shape s home p.numbers p.slots p.pairs standing.sound (copy_fits s home fit) v.number (taken.number_least).listed (taken.number_least).least
 
           pub vacant_slot : v.slot ≡ least_free (used_slots s.live home)
-          vacant_slot = least_slot_is shape s home p.numbers p.slots p.pairs standing.sound (copy_fits s home fit) v.slot (taken.slot_least).listed (taken.slot_least).least
+          vacant_slot = least_free_slot_is shape s home p.numbers p.slots p.pairs standing.sound (copy_fits s home fit) v.slot (taken.slot_least).listed (taken.slot_least).least
 
           pub less_numbers : (q : ℕ) → is_listed after.numbers q ≡ (is_listed p.numbers q && not (q == least_free s.live))
           less_numbers q = taken.numbers q ∙ ap (λ n. is_listed p.numbers q && not (q == n)) vacant_number

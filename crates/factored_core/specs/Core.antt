@@ -1,5 +1,5 @@
 -- A core, which has all cells of a network, and a core with a journal.
-use Rattle.std.specs.Prelude.{ℕ, ◌≡◌, ◌+◌, ◌<◌, List, [], ◌∷◌, ◌++◌, length, Option, MatchOption}
+use Rattle.std.specs.Prelude.{ℕ, ◌≡◌, ◌+◌, ◌<◌, ◌≤◌, List, [], ◌∷◌, ◌++◌, length, Option, MatchOption}
 use Rattle.network_model.specs.Network.{Network, Shape}
 use Rattle.network_model.specs.History.{IsLegal, IsLegalEntry, advance, after}
 use Rattle.network_model.specs.Factored.{homes_step, homes_after}
@@ -39,6 +39,12 @@ pub record Journal : Type 0 where
   pub shape : Shape
   pub capacity : ℕ
   pub entries : List Entry
+
+-- the entries are a legal history, and no more than there may be, which is 2^20 at the most
+pub record IsKept (j : Journal) : Type 0 where
+  pub legal : IsLegal j.shape j.entries
+  pub few : length j.entries ≤ j.capacity
+  pub most : j.capacity ≤ 1048576
 
 -- the journal had room, and has one entry more: the call's with its reply, and the dice's next word or none
 pub record IsExecuted (call : Call) (reply : CoreReply) (next before now : ℕ) (old new : Journal) : Type 0 where

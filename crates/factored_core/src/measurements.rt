@@ -168,7 +168,7 @@ fn moved_out<B: Board>(
     shape.facts();
     let mut pool = held_pool(board);
     pool.facts();
-    let Some(slot) = pool.least_slot() else {
+    let Some(slot) = pool.least_free_slot() else {
         unreachable!()
     };
     pool.take_slot(slot);

@@ -195,7 +195,7 @@ fn take_least(pool: &mut PoolCell) -> Vacancy
     let Some(number) = pool.least_number() else {
         unreachable!()
     };
-    let Some(slot) = pool.least_slot() else {
+    let Some(slot) = pool.least_free_slot() else {
         unreachable!()
     };
     pool.take_number(number);

@@ -3,7 +3,7 @@ ghost use Rattle.std.specs.Prelude.{◌≡◌, ◌+◌, ◌<◌, ◌^◌, MatchO
 ghost use Rattle.core_cells.specs.Cells.{IsUnprepared};
 ghost use Rattle.core_cells.specs.Names.{AreThere};
 ghost use Rattle.factored_core.specs.Changes.{Stands, IsPreparedStep};
-ghost use Rattle.factored_core.specs.Ready.{HasCells, IsAllowedCall};
+ghost use Rattle.factored_core.specs.Ready.{HasCells, IsAllowedCall, IsOpen};
 
 use crate::prepared::Prepared;
 use crate::ranges::call_ranges;
@@ -11,7 +11,7 @@ use crate::{gates, measurements, new_qubits, transfers, two_qubit_gates};
 use core_cells::{Board, held_node};
 use network_model::{Call, Kind, kind_of};
 use qron_link::Dice;
-use virtual_node::Shape;
+use virtual_node::{NodeCell, Shape};
 
 /// Prepares the step of a call: each cell that it touches has its next value then, and no other. The values stay.
 /// A word is drawn exactly where the step draws one, and it is the dice's next.
@@ -35,9 +35,7 @@ pub fn prepare<B: Board, D: Dice>(
     ensures seat { D.begun_seat dice.new ≡ D.begun_seat dice.old }
     ensures serial { D.begun_serial dice.new ≡ D.begun_serial dice.old }
 {
-    call_ranges(call);
-    let own = held_node(board, call.node);
-    own.facts();
+    let own = own_node(board, shape, call);
     match kind_of(&call.command.instr) {
         Kind::Idle => gates::idle(board, shape, call, &own),
         Kind::Gate(gate) => gates::one(board, shape, call, &own, gate),
@@ -53,4 +51,19 @@ pub fn prepare<B: Board, D: Dice>(
         // it comes one by one
         Kind::Unrolled => unreachable!(),
     }
+}
+
+/// The value of the call's own node, with which the board is open for the call.
+fn own_node<B: Board>(board: &mut B, _shape: &Shape, call: &Call) -> NodeCell
+    requires stands { Stands _shape.now (B.cells board.old) }
+    requires has { HasCells _shape.now call.now (B.cells board.old) }
+    requires unprepared { IsUnprepared (B.cells board.old) }
+    requires allowed { IsAllowedCall _shape.now call.now }
+    ensures same { B.cells board.new ≡ B.cells board.old }
+    ensures open { IsOpen _shape.now call.now (B.cells board.new) result }
+{
+    call_ranges(call);
+    let own = held_node(board, call.node);
+    own.facts();
+    own
 }

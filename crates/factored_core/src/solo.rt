@@ -1,7 +1,7 @@
 //! A core with a journal.
 ghost use Rattle.std.specs.Prelude.{◌≡◌, ◌<◌, ◌≤◌, ◌^◌, [], length, IfOk, MatchResult};
 ghost use Rattle.network_model.specs.History.{IsLegal};
-ghost use Rattle.factored_core.specs.Core.{IsExecuted, WasFull};
+ghost use Rattle.factored_core.specs.Core.{IsExecuted, IsKept, WasFull};
 ghost use Rattle.factored_core.specs.Ready.{IsAllowedCall};
 
 use crate::whole::Core;
@@ -80,5 +80,19 @@ impl Solo {
         ensures most { self.now.capacity ≤ 1048576 }
     {
         &self.journal
+    }
+
+    /// The entries, in place of the core.
+    pub fn into_entries(self) -> Vec<Entry>
+        ensures { result.items ≡ self.entries }
+    {
+        self.journal
+    }
+
+    /// What every core with a journal keeps: its entries are legal, and no more than there may be.
+    pub fn facts(&self)
+        ensures { IsKept self.now }
+    {
+        let _ = &self.journal;
     }
 }

@@ -5,3 +5,4 @@ pub mod Seating
 pub mod LineLemmas
 pub mod Talks
 pub mod Programs
+pub mod DrillLemmas

@@ -1,6 +1,6 @@
 -- What the words of the program come to.
-use Rattle.std.proofs.Common.{◌≡◌, ◌≢◌, ℕ, List, ◌++◌, Option, None, Some, Bool, true, false, Ok, Err, refl, sym, ap, subst, ◌∙◌, inl, inr}
-use Rattle.std.specs.Prelude.{◌⊎◌, ◌↔◌, IfSome, option_and_then, if◌then◌else◌, map}
+use Rattle.std.proofs.Common.{◌≡◌, ◌≢◌, ℕ, List, ◌++◌, Option, None, Some, Bool, true, false, Ok, Err, refl, sym, subst, inl, inr}
+use Rattle.std.specs.Prelude.{◌↔◌, IfSome, if◌then◌else◌, map}
 use Rattle.std.specs.List.{list_any}
 use Rattle.network_model.specs.declared.Entry.{Entry}
 use Rattle.cqc_client.specs.declared.talking.Talked.{Talked}
@@ -13,19 +13,20 @@ use Rattle.node_table.specs.declared.settings.Settings.{Settings}
 use Rattle.node_table.specs.Plain.{plain_settings}
 use Rattle.schedule.specs.Plans.{Plans}
 use Rattle.word_lines.specs.Lines.{Line, pipe, pipe_with, replay, talk, drill}
-use Rattle.qron_cli.specs.House.{Ask, Facts, Allows, asks_of}
+use Rattle.qron_cli.specs.Drill.{drill_settings, drill_plans}
+use Rattle.qron_cli.specs.House.{Ask, Facts, asks_of}
 use Rattle.qron_cli.specs.Lines.{is_faulty, is_unfinished, ending_in}
 use Rattle.qron_cli.specs.Pipe.{AllWords, PipeAnswered}
 use Rattle.qron_cli.specs.Replay.{PlansPlayed, status_of_ends}
 use Rattle.qron_cli.specs.Seats.{all_planned, ends_of}
 use Rattle.qron_cli.specs.Seen.{Seen, Printed}
-use Rattle.qron_cli.specs.Program.{Ran, Answered, MayAsk, IsIdle, taken}
+use Rattle.qron_cli.specs.Program.{Ran, Answered, MayAsk, IsIdle}
 use Rattle.qron_cli.specs.Statuses.{status_of, outcome_of}
 use Rattle.qron_cli.specs.declared.complaint.Complaint.TheVariants as complaint
 use Rattle.qron_cli.specs.declared.status.Work.TheVariants as work
 use Rattle.qron_cli.specs.Talk.{Spoke, outcome_of_talk}
 use Rattle.qron_cli.specs.declared.status.Status.{Status}
-use Rattle.qron_cli.specs.declared.status.Status.TheVariants.{Done, Refused, Words, Memory, Fault, Unfinished}
+use Rattle.qron_cli.specs.declared.status.Status.TheVariants.{Done, Words, Memory, Fault, Unfinished}
 
 -- a house that tells no asks may be asked for all
 pub untold : (line : Option Line) (facts : Facts) → facts.asks ≡ None → MayAsk line facts
@@ -33,12 +34,12 @@ untold None facts e = tt
 untold (Some line) facts e = subst (λ (asks : Option (List Ask)). IfSome asks (λ allowed. (others : List Ask) × (allowed ≡ asks_of line ++ others))) (sym e) tt
 
 -- where memory was short before anything was done, that is all
-pub short : (word : AllWords) (handed : Seen → Seen → Type 0) (line : Option Line) (before after : Facts) (old new : Seen) → new ≡ old → Answered word handed (option_and_then taken line) before after old new Memory
+pub short : (word : AllWords) (handed : Seen → Seen → Type 0) (line : Option Line) (before after : Facts) (old new : Seen) → new ≡ old → Answered word handed (line) before after old new Memory
 short word handed None before after old new e = (inr refl, e)
 short word handed (Some pipe) before after old new e = inl (tt, e)
 short word handed (Some (pipe_with s)) before after old new e = inl (tt, e)
 short word handed (Some (replay s t)) before after old new e = inl (tt, e)
-short word handed (Some (drill rounds)) before after old new e = (inr refl, e)
+short word handed (Some (drill rounds)) before after old new e = inl (tt, e)
 short word handed (Some (talk place script)) before after old new e = inl (tt, e)
 
 -- a session's status is none of those with which nothing is done
@@ -93,7 +94,8 @@ idle word handed (pipe_with name) before after old new status (inl h) i = h.1
 idle word handed (pipe_with name) before after old new status (inr h) i = absurd (busy_answered word before h.0 old new status h.2 i)
 idle word handed (replay s t) before after old new status (inl h) i = h.1
 idle word handed (replay s t) before after old new status (inr h) i = absurd (busy_played word before h.0 h.2 _ old new status h.4 i)
-idle word handed (drill rounds) before after old new status h i = absurd h
+idle word handed (drill rounds) before after old new status (inl h) i = h.1
+idle word handed (drill rounds) before after old new status (inr h) i = absurd (busy_played word before (drill_settings rounds) (drill_plans rounds) _ old new status h i)
 idle word handed (talk place script) before after old new status (inl h) i = h.1
 idle word handed (talk place script) before after old new status (inr h) i = absurd (busy_spoke h.0 h.2.0 h.2.1 old new status h.2.3 i)
 
@@ -105,7 +107,8 @@ never_words word handed (pipe_with name) before after old new (inl h) = h.0
 never_words word handed (pipe_with name) before after old new (inr h) = busy_answered word before h.0 old new Words h.2 tt
 never_words word handed (replay s t) before after old new (inl h) = h.0
 never_words word handed (replay s t) before after old new (inr h) = busy_played word before h.0 h.2 _ old new Words h.4 tt
-never_words word handed (drill rounds) before after old new h = h
+never_words word handed (drill rounds) before after old new (inl h) = h.0
+never_words word handed (drill rounds) before after old new (inr h) = busy_played word before (drill_settings rounds) (drill_plans rounds) _ old new Words h tt
 never_words word handed (talk place script) before after old new (inl h) = h.0
 never_words word handed (talk place script) before after old new (inr h) = busy_spoke h.0 h.2.0 h.2.1 old new Words h.2.3 tt
 

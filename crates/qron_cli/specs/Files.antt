@@ -3,7 +3,7 @@ use Rattle.std.specs.Prelude.{◌≡◌, ◌⊎◌, ℕ, ◌≤◌, List, length
 use Rattle.qron_link.specs.Outside.{Rose}
 use Rattle.node_table.specs.declared.settings.Settings.{Settings}
 use Rattle.node_table.specs.declared.settings.SettingsFault.{SettingsFault}
-use Rattle.node_table.specs.Document.{settings_of, IsInRange}
+use Rattle.node_table.specs.Document.{settings_of}
 use Rattle.schedule.specs.declared.plans.ScheduleFault.{ScheduleFault}
 use Rattle.schedule.specs.Plans.{Plans}
 use Rattle.schedule.specs.Schedule.{schedule_of}
@@ -16,13 +16,17 @@ pub record Holds (facts : Facts) (name text : List ℕ) : Type 0 where
   pub bytes : IsFile facts name text
   pub few : length text ≤ file_limit
 
+-- the text of the file of a name means this
+abbrev pub Means : {A : Type 0} → Facts → List ℕ → (List ℕ → A) → A → Type 0
+Means facts name meaning_of meaning = (text : List ℕ) × Holds facts name text × (meaning_of text ≡ meaning)
+
 -- the file of a name says these settings
 abbrev pub SaysSettings : Facts → List ℕ → Settings → Type 0
-SaysSettings facts name s = (text : List ℕ) × Holds facts name text × (settings_of text ≡ Ok s)
+SaysSettings facts name s = Means facts name settings_of (Ok s)
 
 -- the file of a name says no settings
 abbrev pub RefusesSettings : Facts → List ℕ → SettingsFault → Type 0
-RefusesSettings facts name why = (text : List ℕ) × Holds facts name text × (settings_of text ≡ Err why)
+RefusesSettings facts name why = Means facts name settings_of (Err why)
 
 -- the file of a name is no file of settings: it says none, or it is too long
 abbrev pub NoSettings : Facts → List ℕ → Type 0
@@ -30,11 +34,11 @@ NoSettings facts name = ((why : SettingsFault) × RefusesSettings facts name why
 
 -- the file of a name says this schedule, for so many nodes
 abbrev pub SaysSchedule : Facts → List ℕ → ℕ → Plans → Type 0
-SaysSchedule facts name nodes plans = (text : List ℕ) × Holds facts name text × (schedule_of nodes text ≡ Ok plans)
+SaysSchedule facts name nodes plans = Means facts name (schedule_of nodes) (Ok plans)
 
 -- the file of a name says no schedule for so many nodes
 abbrev pub RefusesSchedule : Facts → List ℕ → ℕ → ScheduleFault → Type 0
-RefusesSchedule facts name nodes why = (text : List ℕ) × Holds facts name text × (schedule_of nodes text ≡ Err (why.line, why.why))
+RefusesSchedule facts name nodes why = Means facts name (schedule_of nodes) (Err (why.line, why.why))
 
 -- the file of a name is no schedule for so many nodes: it says none, or it is too long
 abbrev pub NoSchedule : Facts → List ℕ → ℕ → Type 0

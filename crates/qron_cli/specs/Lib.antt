@@ -8,4 +8,5 @@ pub mod Seats
 pub mod Lines
 pub mod Replay
 pub mod Talk
+pub mod Drill
 pub mod Program

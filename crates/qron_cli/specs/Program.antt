@@ -1,7 +1,8 @@
 -- What the program does, by the line that its words are.
-use Rattle.std.specs.Prelude.{◌≡◌, ◌⊎◌, ℕ, List, Option, None, Some, option_and_then, IfSome}
+use Rattle.std.specs.Prelude.{◌≡◌, ◌⊎◌, ℕ, List, Option, None, Some, IfSome}
 use Rattle.node_table.specs.Plain.{plain_settings}
 use Rattle.word_lines.specs.Lines.{Line, pipe, pipe_with, replay, talk, drill, line_of}
+use Rattle.qron_cli.specs.Drill.{DrillRan}
 use Rattle.qron_cli.specs.House.{Facts, Allows, asks_of}
 use Rattle.qron_cli.specs.Pipe.{AllWords, PipeRan, PipeWithRan}
 use Rattle.qron_cli.specs.Replay.{ReplayFilesRan}
@@ -10,17 +11,9 @@ use Rattle.qron_cli.specs.Talk.{TalkRan}
 use Rattle.qron_cli.specs.declared.status.Status.{Status}
 use Rattle.qron_cli.specs.declared.status.Status.TheVariants.{Done, Refused, Words, Memory, Fault, Unfinished}
 
--- the lines that the program takes
-abbrev pub taken : Line → Option Line
-taken pipe = Some pipe
-taken (pipe_with settings) = Some (pipe_with settings)
-taken (replay settings schedule) = Some (replay settings schedule)
-taken (drill rounds) = None
-taken (talk place script) = Some (talk place script)
-
--- what the words ask for, if they are a line that the program takes
-abbrev pub asked_by : List (List ℕ) → Option Line
-asked_by words = option_and_then taken (line_of words)
+-- words that are this line
+abbrev pub IsLine : Line → Type 0
+IsLine line = (words : List (List ℕ)) × (line_of words ≡ Some line)
 
 -- what a line does, with the words of all dice, the link that is handed out, as it is first and last, and what the
 -- house and its pipe tell before and after it
@@ -28,7 +21,7 @@ abbrev pub Ran : AllWords → (Seen → Seen → Type 0) → Line → Facts → 
 Ran word handed pipe before after old new status = PipeRan word (plain_settings 1) before after old new status
 Ran word handed (pipe_with settings) before after old new status = PipeWithRan word settings before after old new status
 Ran word handed (replay settings schedule) before after old new status = ReplayFilesRan word settings schedule before after old new status
-Ran word handed (drill rounds) before after old new status = ⊥
+Ran word handed (drill rounds) before after old new status = DrillRan word rounds before after old new status
 Ran word handed (talk place script) before after old new status = TalkRan handed script before after old new status
 
 -- the words are a line, which is done; or they are none, and nothing is done

@@ -8,7 +8,7 @@ use Rattle.script.specs.Script.{script_of}
 use Rattle.script.specs.Sendable.{IsSendable}
 use Rattle.script.specs.declared.fault.ScriptFault.{ScriptFault}
 use Rattle.qron_cli.specs.House.{Facts, IsTooLong}
-use Rattle.qron_cli.specs.Files.{Holds}
+use Rattle.qron_cli.specs.Files.{Means}
 use Rattle.qron_cli.specs.Seen.{Seen}
 use Rattle.qron_cli.specs.Stops.{Stopped}
 use Rattle.qron_cli.specs.Statuses.{status_of}
@@ -21,11 +21,11 @@ use Rattle.qron_cli.specs.declared.status.Status.TheVariants.{Memory}
 
 -- the file of a name says these messages
 abbrev pub SaysScript : Facts → List ℕ → List Sending → Type 0
-SaysScript facts name script = (text : List ℕ) × Holds facts name text × (script_of text ≡ Ok script)
+SaysScript facts name script = Means facts name script_of (Ok script)
 
 -- the file of a name says no messages
 abbrev pub RefusesScript : Facts → List ℕ → ScriptFault → Type 0
-RefusesScript facts name why = (text : List ℕ) × Holds facts name text × (script_of text ≡ Err (why.line, why.why))
+RefusesScript facts name why = Means facts name script_of (Err (why.line, why.why))
 
 -- the file of a name is no script: it says none, or it is too long
 abbrev pub NoScript : Facts → List ℕ → Type 0

@@ -2,46 +2,16 @@
 use crate::complaint::Complaint;
 use crate::mem_house::{Given, faultless, printed_with};
 use crate::status::Status;
+use crate::texts::TWO;
 use cqc_server::{ScheduleFault, Why};
-use node_table::{Key, SettingsFault};
 use std::test::Fail;
 
-// Settings of two nodes.
-const TWO: &str = "seed = \"0000000000000000000000000000000000000000000000000000000000000000\"
-limit = 12
-room = 16
-workers = 2
-connections = 8
+// The connections of a schedule, over two nodes.
+const REPLAY: &[&str] = &["replay", "settings", "schedule"];
 
-[[node]]
-address = \"127.0.0.1\"
-port = 8821
-
-[[node]]
-address = \"127.0.0.1\"
-port = 8822
-";
-
-// Settings of one node, without a seed.
-const SEEDLESS: &str = "[[node]]
-address = \"127.0.0.1\"
-port = 8821
-";
-
-// A key that none may have, in front of the others.
-const COLOURED: &str = "colour = 1
-seed = \"0000000000000000000000000000000000000000000000000000000000000000\"
-
-[[node]]
-address = \"127.0.0.1\"
-port = 8821
-";
-
-// Words, the settings and the schedule that they name, and what comes of it.
+// A schedule, and what comes of its replay.
 #[derive(Drop)]
 struct Case<'a> {
-    args: &'a [&'a str],
-    settings: &'a str,
     schedule: &'a str,
     status: Status,
     said: Option<Complaint>,
@@ -51,22 +21,10 @@ struct Case<'a> {
 // A replay that is done, and prints this.
 fn replayed<'a>(schedule: &'a str, text: &'a str) -> Case<'a> {
     Case {
-        args: &["replay", "settings", "schedule"],
-        settings: TWO,
         schedule,
         status: Status::Done,
         said: None,
         text,
-    }
-}
-
-// A replay whose settings are refused.
-fn unset(settings: &str, why: SettingsFault) -> Case<'_> {
-    Case {
-        settings,
-        status: Status::Refused,
-        said: Some(Complaint::Settings(why)),
-        ..replayed("", "")
     }
 }
 
@@ -81,14 +39,6 @@ fn unscheduled(schedule: &str, line: u32, why: Why) -> Case<'_> {
 
 #[test]
 fn schedules_are_replayed(rt: HostRuntime) -> Result<(), Fail> {
-    let strange = SettingsFault::Strange {
-        table: 0,
-        before: 0,
-    };
-    let missing = SettingsFault::Missing {
-        key: Key::Seed,
-        node: 0,
-    };
     let cases = [
         replayed("", ""),
         replayed(
@@ -115,13 +65,11 @@ fn schedules_are_replayed(rt: HostRuntime) -> Result<(), Fail> {
         },
         unscheduled("c 2 100 -\n", 1, Why::Number),
         unscheduled("# none\n\ns 0 1\n", 3, Why::Number),
-        unset(COLOURED, strange),
-        unset(SEEDLESS, missing),
     ];
     for case in cases {
-        let files = [("settings", case.settings), ("schedule", case.schedule)];
+        let files = [("settings", TWO), ("schedule", case.schedule)];
         let given = Given {
-            args: case.args,
+            args: REPLAY,
             files: &files,
             ..faultless([0, 0], 7)
         };
@@ -143,7 +91,7 @@ fn what_fails_is_a_fault(rt: HostRuntime) -> Result<(), Fail> {
             ..faultless([0, 0], 7)
         },
         Given {
-            args: &["replay", "settings", "schedule"],
+            args: REPLAY,
             files: &files,
             bad_write: Some(0),
             ..faultless([0, 0], 7)

@@ -6,6 +6,11 @@ mod circuit_tests;
 #[cfg(test)]
 mod command_tests;
 mod complaint;
+mod detail;
+mod drill_command;
+#[cfg(test)]
+mod drill_tests;
+mod errors;
 mod files;
 mod house;
 #[cfg(test)]
@@ -26,12 +31,17 @@ mod talk_command;
 mod talk_tests;
 #[cfg(test)]
 mod tests;
+#[cfg(test)]
+mod texts;
+mod told;
 
 use crate::complaint::Complaint;
-use crate::real::{RealHouse, complain};
+use crate::errors::Errors;
+use crate::real::RealHouse;
 use crate::status::Status;
 use qron_link::StdPipe;
 use std::env;
+use std::io::{IsTerminal, Stderr};
 use std::process::ExitCode;
 
 fn main(rt: HostRuntime) -> ExitCode {
@@ -41,7 +51,7 @@ fn main(rt: HostRuntime) -> ExitCode {
             house.finish(status)
         }
         Err(complaint) => {
-            complain(&mut rt.stderr(), &complaint);
+            standard_error(&rt).complain(&complaint);
             Status::of(&Err(complaint))
         }
     };
@@ -63,6 +73,14 @@ fn open(rt: &HostRuntime) -> Result<Outside<'_>, Complaint> {
         }
     }
     let pipe = StdPipe::new(rt.alloc(), rt.stdin(), rt.stdout())?;
-    let house = RealHouse::new(rt.alloc(), rt, pipe, rt.stderr());
+    let house = RealHouse::new(rt.alloc(), rt, pipe, standard_error(rt));
     Ok(Outside { words, house })
+}
+
+fn standard_error(rt: &HostRuntime) -> Errors<Stderr> {
+    let out = rt.stderr();
+    Errors {
+        is_terminal: out.is_terminal(),
+        out,
+    }
 }

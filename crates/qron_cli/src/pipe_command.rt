@@ -4,12 +4,12 @@ ghost use Rattle.cqc_session.specs.State.{begun};
 ghost use Rattle.node_table.specs.Document.{IsInRange};
 ghost use Rattle.qron_cli.specs.House.{Allows, ask_file};
 ghost use Rattle.qron_cli.specs.Pipe.{pipe_connection, journal_of, read_limit, PipeServed, PipeRan, PipeWithRan};
-ghost use Rattle.qron_cli.specs.Seen.{Seen};
 ghost use Rattle.qron_cli.specs.Statuses.{status_of};
 
 use crate::files::settings_of;
 use crate::house::House;
 use crate::status::{Outcome, outcome_of};
+use crate::told::Told;
 use cqc_session::{Session, serve_solo};
 use factored_core::Solo;
 use node_table::Settings;
@@ -70,8 +70,7 @@ fn serve_pipe<L: Link, D: Dice + Drop>(opened: &mut Opened<D>, link: &mut L) -> 
     requires core { opened.old.solo.entries ≡ [] }
     requires node { 0 < length opened.old.solo.shape.places }
     requires session { opened.old.session ≡ begun pipe_connection read_limit }
-    ensures { let seen : L → Seen = λ link. record { left = L.left link; held = L.held link; read_faults = L.read_faults link; write_faults = L.write_faults link } in
-        PipeServed opened.old.solo.shape opened.old.solo.capacity (λ k. D.word (D.key opened.old.dice) 0 0 k) (seen link.old) (seen link.new) result }
+    ensures { PipeServed opened.old.solo.shape opened.old.solo.capacity (λ k. D.word (D.key opened.old.dice) 0 0 k) (⟦<L as Told>⟧.seen link.old) (⟦<L as Told>⟧.seen link.new) result }
 {
     let ending = serve_solo(
         &mut opened.solo,
@@ -87,8 +86,7 @@ fn serve_pipe<L: Link, D: Dice + Drop>(opened: &mut Opened<D>, link: &mut L) -> 
 /// Serves one connection on the pipe, over a core of its own. All room is taken before the pipe is touched.
 pub fn run_pipe<H: House>(alloc: Global, settings: Settings, house: &mut H) -> Outcome
     requires { IsInRange settings }
-    ensures { let seen : H.Pipe → Seen = λ pipe. record { left = H.Pipe.Source.left pipe; held = H.Pipe.Sink.held pipe; read_faults = H.Pipe.Source.read_faults pipe; write_faults = H.Pipe.Sink.write_faults pipe } in
-        PipeRan H.Dice.word settings (H.facts house.old) (H.facts house.new) (seen (H.pipe_of house.old)) (seen (H.pipe_of house.new)) (status_of result) }
+    ensures { PipeRan H.Dice.word settings (H.facts house.old) (H.facts house.new) (⟦<H::Pipe as Told>⟧.seen (H.pipe_of house.old)) (⟦<H::Pipe as Told>⟧.seen (H.pipe_of house.new)) (status_of result) }
 {
     let mut opened = open_with(alloc, settings, house)?;
     let ending = serve_pipe(&mut opened, house.pipe());
@@ -98,8 +96,7 @@ pub fn run_pipe<H: House>(alloc: Global, settings: Settings, house: &mut H) -> O
 /// The same with the settings of a file.
 pub fn run_pipe_with<H: House>(alloc: Global, settings: &str, house: &mut H) -> Outcome
     requires { Allows (ask_file settings.now ∷ []) (H.facts house.old) }
-    ensures { let seen : H.Pipe → Seen = λ pipe. record { left = H.Pipe.Source.left pipe; held = H.Pipe.Sink.held pipe; read_faults = H.Pipe.Source.read_faults pipe; write_faults = H.Pipe.Sink.write_faults pipe } in
-        PipeWithRan H.Dice.word settings.now (H.facts house.old) (H.facts house.new) (seen (H.pipe_of house.old)) (seen (H.pipe_of house.new)) (status_of result) }
+    ensures { PipeWithRan H.Dice.word settings.now (H.facts house.old) (H.facts house.new) (⟦<H::Pipe as Told>⟧.seen (H.pipe_of house.old)) (⟦<H::Pipe as Told>⟧.seen (H.pipe_of house.new)) (status_of result) }
 {
     let settings = settings_of(alloc, house, settings)?;
     run_pipe(alloc, settings, house)

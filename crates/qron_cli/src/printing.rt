@@ -3,12 +3,13 @@ ghost use Rattle.std.specs.Prelude.{◌≡◌, ◌++◌, codes, map, string_byte
 ghost use Rattle.std.specs.Fmt.{decimal};
 ghost use Rattle.cqc_server.specs.InMemory.{shown_end};
 ghost use Rattle.qron_cli.specs.Lines.{word_of, hex_or_dash, end_line, end_lines};
-ghost use Rattle.qron_cli.specs.Seen.{Seen, Printed};
+ghost use Rattle.qron_cli.specs.Seen.{Printed};
 ghost use Rattle.qron_cli.specs.Statuses.{status_of};
 
 use crate::complaint::Complaint;
 use crate::house::House;
 use crate::status::Outcome;
+use crate::told::Told;
 use cqc_server::{Actor, Shown};
 use hex::encode;
 use qron_link::{Dice, MemLink, NotSent, send_link};
@@ -111,8 +112,7 @@ pub fn end_lines<D: Dice>(alloc: Global, actors: &[Actor<MemLink, D>]) -> Result
 
 /// Prints a text behind work that is done. Where that fails it is a fault.
 pub fn print<H: House>(house: &mut H, text: &str, done: Outcome) -> Outcome
-    ensures printed { let seen : H.Pipe → Seen = λ pipe. record { left = H.Pipe.Source.left pipe; held = H.Pipe.Sink.held pipe; read_faults = H.Pipe.Source.read_faults pipe; write_faults = H.Pipe.Sink.write_faults pipe } in
-        Printed text.now (status_of done) (seen (H.pipe_of house.old)) (seen (H.pipe_of house.new)) (status_of result) }
+    ensures printed { Printed text.now (status_of done) (⟦<H::Pipe as Told>⟧.seen (H.pipe_of house.old)) (⟦<H::Pipe as Told>⟧.seen (H.pipe_of house.new)) (status_of result) }
     ensures facts { H.facts house.new ≡ H.facts house.old }
 {
     match send_link(house.pipe(), text.as_bytes()) {

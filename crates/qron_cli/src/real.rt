@@ -3,6 +3,7 @@ ghost use Rattle.std.specs.Prelude.{◌≡◌, ◌≤◌, ℕ, None, refl, IfOk,
 ghost use Rattle.qron_cli.specs.Statuses.{HasFinished};
 
 use crate::complaint::Complaint;
+use crate::errors::Errors;
 use crate::house::{FileRead, House};
 use crate::status::Status;
 use network_model::Place;
@@ -28,7 +29,8 @@ pub struct PipeHouse<
     alloc: Global,
     system: &'a S,
     pipe: Pipe<R, W>,
-    pub errors: E,
+    /// Where complaints go.
+    pub errors: Errors<E>,
     // how often a file could not be read, or a place not be reached
     faults: u64,
 }
@@ -40,7 +42,7 @@ impl<'a, S: Files + Net<Stream = TcpStream>, R: Reader, W: Writer, E: Write + Dr
     W,
     E,
 > {
-    pub fn new(alloc: Global, system: &'a S, pipe: Pipe<R, W>, errors: E) -> Self {
+    pub fn new(alloc: Global, system: &'a S, pipe: Pipe<R, W>, errors: Errors<E>) -> Self {
         PipeHouse {
             alloc,
             system,
@@ -115,7 +117,7 @@ impl<S: Files + Net<Stream = TcpStream>, R: Reader, W: Writer, E: Write + Drop> 
     }
 
     fn complain(&mut self, complaint: &Complaint) {
-        complain(&mut self.errors, complaint);
+        self.errors.complain(complaint);
     }
 }
 
@@ -133,13 +135,4 @@ fn read_file<F: Files>(alloc: Global, files: &F, name: &str) -> io::Result<Optio
         return Ok(None);
     }
     Ok(Some(bytes))
-}
-
-/// Writes a complaint as a line. Where that fails nothing can be said.
-pub fn complain<E: Write>(errors: &mut E, complaint: &Complaint) {
-    let label = complaint.label();
-    let _ = match complaint.line() {
-        Some(line) => writeln!(errors, "{label} {line}"),
-        None => writeln!(errors, "{label}"),
-    };
 }

@@ -1,6 +1,12 @@
-// How the program ends over a pipe that can't send what it gathered.
+// How the program ends over a pipe that can't send what it gathered, and what a terminal is told.
+use crate::complaint::Complaint;
+use crate::errors::Errors;
 use crate::real::PipeHouse;
 use crate::status::Status;
+use crate::texts::refused_settings;
+use cqc_client::{ScriptFault, ScriptWhy};
+use cqc_server::{ScheduleFault, Why};
+use node_table::{Key, SettingsFault};
 use qron_link::{Pipe, Sink, Source, Writer};
 use std::alloc::Global;
 use std::io::{self, Cursor, ErrorKind, Write};
@@ -43,6 +49,14 @@ fn gathering(alloc: Global, room: usize) -> Result<Pipe<Cursor<Vec<u8>>, Bounded
     Ok(pipe)
 }
 
+// Standard error that is no terminal.
+fn quiet(alloc: Global) -> Errors<Vec<u8>> {
+    Errors {
+        out: Vec::new(alloc),
+        is_terminal: false,
+    }
+}
+
 #[test]
 fn failure_of_the_last_flush_is_a_fault(rt: HostRuntime) -> Result<(), Fail> {
     let cases = [
@@ -55,9 +69,69 @@ fn failure_of_the_last_flush_is_a_fault(rt: HostRuntime) -> Result<(), Fail> {
     ];
     for (room, before, after, line) in cases {
         let alloc = rt.alloc();
-        let mut house = PipeHouse::new(alloc, &rt, gathering(alloc, room)?, Vec::new(alloc));
+        let mut house = PipeHouse::new(alloc, &rt, gathering(alloc, room)?, quiet(alloc));
         assert_eq!(rt; house.finish(before), after, "{room} {line}");
-        assert_eq!(rt; house.errors.as_slice(), line.as_bytes(), "{room} {line}");
+        assert_eq!(rt;
+            house.errors.out.as_slice(),
+            line.as_bytes(),
+            "{room} {line}"
+        );
+    }
+    Ok(())
+}
+
+#[test]
+fn terminal_is_told_what_was_wrong(rt: HostRuntime) -> Result<(), Fail> {
+    let [_, (_, range), _, _] = refused_settings();
+    let missing = SettingsFault::Missing {
+        key: Key::Port,
+        node: 1,
+    };
+    let line = ScheduleFault {
+        line: 3,
+        why: Why::Word,
+    };
+    let waiting = ScriptFault {
+        line: 2,
+        why: ScriptWhy::Pending,
+    };
+    let cases = [
+        (
+            Complaint::Words,
+            "qron: words\nthe words are: pipe, pipe <settings>, replay <settings> <schedule>, talk <address> <port> <script>, or drill <rounds>\n",
+        ),
+        (Complaint::Memory, "qron: memory\n"),
+        (
+            Complaint::Settings(range),
+            "qron: settings\nthe top table: limit is out of its range, a whole number from 1 to 12 is expected\n",
+        ),
+        (
+            Complaint::Settings(missing),
+            "qron: settings\nthe table of node 1: port is missing, a whole number from 1 to 65,535 is expected\n",
+        ),
+        (
+            Complaint::Settings(SettingsFault::Strange {
+                table: 2,
+                before: 1,
+            }),
+            "qron: settings\nthe table of node 1: a strange key, number 2 of its keys by their bytes\n",
+        ),
+        (
+            Complaint::Schedule(line),
+            "qron: schedule line 3\nits first word is neither `c` nor `s`\n",
+        ),
+        (
+            Complaint::Script(waiting),
+            "qron: script line 2\nthe commands before it wait for `go` or `factory`\n",
+        ),
+    ];
+    for (complaint, text) in cases {
+        let mut errors = Errors {
+            is_terminal: true,
+            ..quiet(rt.alloc())
+        };
+        errors.complain(&complaint);
+        assert_eq!(rt; str::from_utf8(errors.out.as_slice())?, text);
     }
     Ok(())
 }

@@ -4,7 +4,6 @@ ghost use Rattle.node_table.specs.Document.{IsInRange};
 ghost use Rattle.schedule.specs.Views.{plans};
 ghost use Rattle.qron_cli.specs.House.{Allows, ask_file};
 ghost use Rattle.qron_cli.specs.Seats.{CanPlay};
-ghost use Rattle.qron_cli.specs.Seen.{Seen};
 ghost use Rattle.qron_cli.specs.Replay.{ReplayRan, ReplayFilesRan, ReplayWithRan};
 ghost use Rattle.qron_cli.specs.Statuses.{status_of};
 
@@ -13,6 +12,7 @@ use crate::house::House;
 use crate::printing::{end_lines, print};
 use crate::seats::play;
 use crate::status::Outcome;
+use crate::told::Told;
 use cqc_server::Schedule;
 use node_table::Settings;
 use std::alloc::Global;
@@ -26,8 +26,7 @@ fn run_schedule<H: House>(
 ) -> Outcome
     requires settings { IsInRange settings }
     requires schedule { CanPlay (length settings.shape.places) schedule }
-    ensures { let seen : H.Pipe → Seen = λ pipe. record { left = H.Pipe.Source.left pipe; held = H.Pipe.Sink.held pipe; read_faults = H.Pipe.Source.read_faults pipe; write_faults = H.Pipe.Sink.write_faults pipe } in
-        ReplayRan H.Dice.word settings (plans schedule) (H.facts house.old) (H.facts house.new) (seen (H.pipe_of house.old)) (seen (H.pipe_of house.new)) (status_of result) }
+    ensures { ReplayRan H.Dice.word settings (plans schedule) (H.facts house.old) (H.facts house.new) (⟦<H::Pipe as Told>⟧.seen (H.pipe_of house.old)) (⟦<H::Pipe as Told>⟧.seen (H.pipe_of house.new)) (status_of result) }
 {
     let played = play(alloc, settings, schedule, house)?;
     let lines = end_lines(alloc, &played.actors)?;
@@ -38,8 +37,7 @@ fn run_schedule<H: House>(
 fn run_with<H: House>(alloc: Global, settings: Settings, schedule: &str, house: &mut H) -> Outcome
     requires settings { IsInRange settings }
     requires asked { Allows (ask_file schedule.now ∷ []) (H.facts house.old) }
-    ensures { let seen : H.Pipe → Seen = λ pipe. record { left = H.Pipe.Source.left pipe; held = H.Pipe.Sink.held pipe; read_faults = H.Pipe.Source.read_faults pipe; write_faults = H.Pipe.Sink.write_faults pipe } in
-        ReplayWithRan H.Dice.word settings schedule.now (H.facts house.old) (H.facts house.new) (seen (H.pipe_of house.old)) (seen (H.pipe_of house.new)) (status_of result) }
+    ensures { ReplayWithRan H.Dice.word settings schedule.now (H.facts house.old) (H.facts house.new) (⟦<H::Pipe as Told>⟧.seen (H.pipe_of house.old)) (⟦<H::Pipe as Told>⟧.seen (H.pipe_of house.new)) (status_of result) }
 {
     let nodes = settings.shape.nodes();
     let schedule = schedule_of(alloc, house, schedule, nodes)?;
@@ -49,8 +47,7 @@ fn run_with<H: House>(alloc: Global, settings: Settings, schedule: &str, house: 
 /// The same with the settings of another.
 pub fn run_replay<H: House>(alloc: Global, settings: &str, schedule: &str, house: &mut H) -> Outcome
     requires { Allows (ask_file settings.now ∷ ask_file schedule.now ∷ []) (H.facts house.old) }
-    ensures { let seen : H.Pipe → Seen = λ pipe. record { left = H.Pipe.Source.left pipe; held = H.Pipe.Sink.held pipe; read_faults = H.Pipe.Source.read_faults pipe; write_faults = H.Pipe.Sink.write_faults pipe } in
-        ReplayFilesRan H.Dice.word settings.now schedule.now (H.facts house.old) (H.facts house.new) (seen (H.pipe_of house.old)) (seen (H.pipe_of house.new)) (status_of result) }
+    ensures { ReplayFilesRan H.Dice.word settings.now schedule.now (H.facts house.old) (H.facts house.new) (⟦<H::Pipe as Told>⟧.seen (H.pipe_of house.old)) (⟦<H::Pipe as Told>⟧.seen (H.pipe_of house.new)) (status_of result) }
 {
     let settings = settings_of(alloc, house, settings)?;
     run_with(alloc, settings, schedule, house)

@@ -3,7 +3,6 @@ ghost use Rattle.std.specs.Prelude.{◌≡◌, [], ◌∷◌, map};
 ghost use Rattle.script.specs.Views.{sending_of};
 ghost use Rattle.qron_cli.specs.House.{Allows, ask_file, ask_link, WasAsked};
 ghost use Rattle.qron_cli.specs.Files.{Gave};
-ghost use Rattle.qron_cli.specs.Seen.{Seen};
 ghost use Rattle.qron_cli.specs.Statuses.{status_of};
 ghost use Rattle.qron_cli.specs.Talk.{SaysScript, RefusesAsScript, CanTalk, Handed, SpokeOver, TalkAtRan, TalkRan, outcome_of_talk};
 
@@ -11,6 +10,7 @@ use crate::complaint::Complaint;
 use crate::files::text_of;
 use crate::house::House;
 use crate::status::{Outcome, Work};
+use crate::told::Told;
 use cqc_client::{Message, ScriptRead, Talked, read_script, talk};
 use network_model::Place;
 use qron_link::Link;
@@ -52,9 +52,7 @@ fn talk_over<L: Link, P: Link>(
     pipe: &mut P,
 ) -> Outcome
     requires { CanTalk (map sending_of script.now) }
-    ensures spoke { let first : L → Seen = λ link. record { left = L.left link; held = L.held link; read_faults = L.read_faults link; write_faults = L.write_faults link } in
-        let seen : P → Seen = λ pipe. record { left = P.left pipe; held = P.held pipe; read_faults = P.read_faults pipe; write_faults = P.write_faults pipe } in
-        SpokeOver (map sending_of script.now) (first link.old) (first link.new) (seen pipe.old) (seen pipe.new) (status_of result) }
+    ensures spoke { SpokeOver (map sending_of script.now) (⟦<L as Told>⟧.seen link.old) (⟦<L as Told>⟧.seen link.new) (⟦<P as Told>⟧.seen pipe.old) (⟦<P as Told>⟧.seen pipe.new) (status_of result) }
     ensures led { L.was_led link.old link.new }
 {
     let talked = talk(alloc, script, link, pipe)?;
@@ -65,9 +63,7 @@ fn talk_over<L: Link, P: Link>(
 fn talk_at<H: House>(alloc: Global, place: Place, script: &[Message], house: &mut H) -> Outcome
     requires script { CanTalk (map sending_of script.now) }
     requires asked { Allows (ask_link place ∷ []) (H.facts house.old) }
-    ensures { let seen : H.Pipe → Seen = λ pipe. record { left = H.Pipe.Source.left pipe; held = H.Pipe.Sink.held pipe; read_faults = H.Pipe.Source.read_faults pipe; write_faults = H.Pipe.Sink.write_faults pipe } in
-        let seen_link : H.Link → Seen = λ link. record { left = H.Link.Source.left link; held = H.Link.Sink.held link; read_faults = H.Link.Source.read_faults link; write_faults = H.Link.Sink.write_faults link } in
-        TalkAtRan (Handed seen_link H.Link.was_led (H.handed house.old) (H.handed house.new)) (map sending_of script.now) (H.facts house.old) (H.facts house.new) (seen (H.pipe_of house.old)) (seen (H.pipe_of house.new)) (status_of result) }
+    ensures { TalkAtRan (Handed (⟦<H::Link as Told>⟧.seen) H.Link.was_led (H.handed house.old) (H.handed house.new)) (map sending_of script.now) (H.facts house.old) (H.facts house.new) (⟦<H::Pipe as Told>⟧.seen (H.pipe_of house.old)) (⟦<H::Pipe as Told>⟧.seen (H.pipe_of house.new)) (status_of result) }
 {
     let Some(mut link) = house.connect(place) else {
         return Err(Complaint::Fault);
@@ -78,9 +74,7 @@ fn talk_at<H: House>(alloc: Global, place: Place, script: &[Message], house: &mu
 /// Sends the messages of a file's script to a place, and prints a line for each reply.
 pub fn run_talk<H: House>(alloc: Global, place: Place, script: &str, house: &mut H) -> Outcome
     requires { Allows (ask_file script.now ∷ ask_link place ∷ []) (H.facts house.old) }
-    ensures { let seen : H.Pipe → Seen = λ pipe. record { left = H.Pipe.Source.left pipe; held = H.Pipe.Sink.held pipe; read_faults = H.Pipe.Source.read_faults pipe; write_faults = H.Pipe.Sink.write_faults pipe } in
-        let seen_link : H.Link → Seen = λ link. record { left = H.Link.Source.left link; held = H.Link.Sink.held link; read_faults = H.Link.Source.read_faults link; write_faults = H.Link.Sink.write_faults link } in
-        TalkRan (Handed seen_link H.Link.was_led (H.handed house.old) (H.handed house.new)) script.now (H.facts house.old) (H.facts house.new) (seen (H.pipe_of house.old)) (seen (H.pipe_of house.new)) (status_of result) }
+    ensures { TalkRan (Handed (⟦<H::Link as Told>⟧.seen) H.Link.was_led (H.handed house.old) (H.handed house.new)) script.now (H.facts house.old) (H.facts house.new) (⟦<H::Pipe as Told>⟧.seen (H.pipe_of house.old)) (⟦<H::Pipe as Told>⟧.seen (H.pipe_of house.new)) (status_of result) }
 {
     let messages = script_of(alloc, house, script)?;
     talk_at(alloc, place, &messages, house)

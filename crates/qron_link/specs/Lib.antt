@@ -2,6 +2,7 @@ pub mod Outside
 pub mod MemLinks
 pub mod MemLinkLaws
 pub mod Dices
+pub mod Patiences
 pub mod Pipes
 pub mod Transfers
 pub mod Doors

@@ -116,3 +116,46 @@ fn first_byte<D: Door>(door: &mut D) -> Option<u8> {
         _ => None,
     }
 }
+
+#[test]
+fn counted_patience_gives_up_after_its_number_of_times(rt: HostRuntime) {
+    let mut patience = CountPatience::new(rt.alloc(), 2).expect(&rt, "patience");
+    patience.start();
+    assert!(rt; patience.again(empty_after(4)));
+    assert!(rt; patience.again(empty_after(5)));
+    assert!(rt; !patience.again(empty_after(5)));
+    assert_eq!(rt; patience.asked(), 3);
+    patience.start();
+    assert!(rt; patience.again(empty_after(9)));
+    assert_eq!(rt; patience.asked(), 4);
+}
+
+#[test]
+fn patience_for_no_time_gives_up_at_once(rt: HostRuntime) {
+    let mut patience = CountPatience::new(rt.alloc(), 0).expect(&rt, "patience");
+    patience.start();
+    assert!(rt; !patience.again(empty_after(0)));
+    assert_eq!(rt; patience.asked(), 1);
+}
+
+#[test]
+fn patience_that_sleeps_goes_on_as_often(rt: HostRuntime) {
+    let mut patience = SleepPatience::new(rt, 2, 1);
+    patience.start();
+    let went_on = [
+        patience.again(empty_after(0)),
+        patience.again(empty_after(1)),
+        patience.again(empty_after(1)),
+    ];
+    assert!(rt; went_on == [true, true, false]);
+}
+
+// A queue of qubits that were sent, which was empty after so many entries.
+fn empty_after(entries: u32) -> EmptyAt {
+    EmptyAt {
+        node: 0,
+        app: 3,
+        pair: false,
+        entries,
+    }
+}

@@ -1,7 +1,7 @@
 use Rattle.std.proofs.Common.{refl, sym, ap, ◌∙◌, arith}
 use Rattle.session_model.specs.Walk.{Connection, call_of}
 use Rattle.cqc_session.specs.State.{stage_after_answer}
-use Rattle.cqc_session.proofs.Serves.{begins, poll_ends, round_ends, round_goes}
+use Rattle.cqc_session.proofs.Serves.{begins, poll_ends, round_ends, round_goes, goes_ok}
 use Rattle.cqc_session.proofs.over_core.serve.Goals as goal
 
 pub loop-ending-init : goal.loop-ending-init
@@ -13,6 +13,7 @@ loop-ending-init g c = (
   refl,
   refl,
   g.met.K.Core.leads_nowhere c.args.core.now,
+  c.requires.core,
   omega arith,
   omega arith,
   g.met.L.Link.leads_nowhere _,
@@ -24,6 +25,9 @@ execute-done-requires-clause-ours g c =
     let turn = c.in-Execute.ensures.turn in
     turn.1.call_is
     ∙ ap (λ (p : Connection). call_of p c.in-Execute.call.app c.in-Execute.call.command) (c.poll.ensures.connection ∙ kept.1 ∙ c.requires.ours ∙ sym kept.5)
+
+pub execute-done-requires-clause-ready : goal.execute-done-requires-clause-ready
+execute-done-requires-clause-ready g c = c.loop-ending.invariant.7
 
 pub execute-done-requires-clause-allowed : goal.execute-done-requires-clause-allowed
 execute-done-requires-clause-allowed g c = c.in-Execute.ensures.turn.1.allowed
@@ -58,7 +62,8 @@ loop-ending-preserved g c =
       c.execute-done.ensures.capacity ∙ kept.4,
       c.execute-done.ensures.connection ∙ kept.5,
       g.met.K.Core.leads_on _ _ _ kept.6 c.execute-done.ensures.led,
+      goes_ok _ _ _ _ _ c.execute-done.result _ c.execute-done.ensures.still (c.in_default.ensures.answered c.in-Execute.call turn.1),
       omega (arith, c.in-Execute.ensures.cause.0, c.answer.ensures.read_faults),
       omega (arith, c.in-Execute.ensures.cause.1, c.in_default.ensures.cause),
-      g.met.L.Link.leads_on _ _ _ (g.met.L.Link.leads_on _ _ _ kept.9 c.poll.ensures.led) c.answer.ensures.led,
+      g.met.L.Link.leads_on _ _ _ (g.met.L.Link.leads_on _ _ _ kept.10 c.poll.ensures.led) c.answer.ensures.led,
     )

@@ -14,6 +14,7 @@ invariant-loop-ending g l =
     × (g.K.Core.capacity l.core ≡ g.K.Core.capacity l.initial.core)
     × (g.K.Core.connection l.core ≡ g.K.Core.connection l.initial.core)
     × g.K.Core.was_led l.initial.core l.core
+    × g.K.Core.ready l.core
     × (g.L.Source.read_faults l.initial.link ≤ g.L.Source.read_faults l.link)
     × (g.L.Sink.write_faults l.initial.link ≤ g.L.Sink.write_faults l.link)
     × g.L.Link.was_led l.initial.link l.link

@@ -1,0 +1,9 @@
+pub mod Histories
+pub mod Journals
+pub mod Staleness
+pub mod Slots
+pub mod Marks
+pub mod Keeps
+pub mod Ends
+pub mod Closing
+pub mod Refused

@@ -1,0 +1,47 @@
+-- A board that has the cells that a call's step may touch.
+use Rattle.std.proofs.Common.{ℕ, ◌≡◌, ◌<◌, true, List, Option, None, Some, IsSome, refl, sym, ap, ◌∙◌, arith}
+use mathlib.Core.Logic.{dite}
+use native.Mathlib.Decide.{dec_le}
+use Rattle.state_model.proofs.Booleans.{clash}
+use Rattle.network_model.specs.Network.{Shape}
+use Rattle.network_model.specs.declared.Call.{Call}
+use Rattle.virtual_node.specs.Node.{Node}
+use Rattle.core_cells.specs.Marks.{IsLeastListed}
+use Rattle.core_cells.specs.Cells.{Cells, HasHome}
+use Rattle.core_cells.specs.Nodes.{NodeValues}
+use Rattle.core_cells.specs.declared.cells.PoolPair.{PoolPair}
+use Rattle.factored_core.specs.Needs.{needs_of}
+use Rattle.factored_core.specs.Ready.{HasCells}
+use Rattle.factored_core.specs.declared.needs.Needs.{Needs}
+
+some_there : {A : Type 0} (o : Option A) → IsSome o → (x : A) × (o ≡ Some x)
+some_there None h = absurd (clash (sym h))
+some_there (Some x) h = (x, refl)
+
+pub ready_has : (shape : Shape) (c : Call) (cs : Cells) (own : Node) (needs : Needs) → IsSome (cs.node c.node) → ((w : NodeValues) → cs.node c.node ≡ Some w → own ≡ w.now) → needs ≡ needs_of shape c own
+    → ((n : ℕ) → needs.other ≡ Some n → IsSome (cs.node n)) → (needs.pool ≡ true → IsSome cs.pool)
+    → (needs.slot ≡ true → (w : PoolPair) (t : ℕ) → cs.pool ≡ Some w → IsLeastListed w.now.slots t → IsSome (cs.slot t))
+    → ((q : ℕ) → needs.first ≡ Some q → HasHome cs q) → ((q : ℕ) → needs.second ≡ Some q → HasHome cs q) → (has : HasCells shape c cs) × (has.own.now ≡ own)
+ready_has shape c cs own needs has copied is other pool free first second =
+    let w = some_there (cs.node c.node) has in
+    let same : needs ≡ needs_of shape c w.0.now = is ∙ ap (needs_of shape c) (copied w.0 w.1) in (
+      record {
+        own = w.0;
+        own_there = w.1;
+        other = λ n e. other n (ap (λ (x : Needs). x.other) same ∙ e);
+        pool = λ e. pool (ap (λ (x : Needs). x.pool) same ∙ e);
+        first = λ q e. first q (ap (λ (x : Needs). x.first) same ∙ e);
+        second = λ q e. second q (ap (λ (x : Needs). x.second) same ∙ e);
+        free = λ v t e at least. free (ap (λ (x : Needs). x.slot) same ∙ e) v t at least;
+      },
+      sym (copied w.0 w.1),
+    )
+
+-- there is one least number
+least_not_less : (ns : List ℕ) (a b : ℕ) → IsLeastListed ns a → IsLeastListed ns b → a < b → ⊥
+least_not_less ns a b one two lt = clash (sym one.listed ∙ two.least a lt)
+
+pub least_is_one : (ns : List ℕ) (a b : ℕ) → IsLeastListed ns a → IsLeastListed ns b → a ≡ b
+least_is_one ns a b one two = dite (dec_le a b)
+    (λ le. dite (dec_le b a) (λ ge. omega arith) (λ not. absurd (least_not_less ns a b one two (omega (arith, not)))))
+    (λ not. absurd (least_not_less ns b a two one (omega (arith, not))))

@@ -1,0 +1,14 @@
+pub mod Timeouts
+pub mod Waits
+pub mod Asked
+pub mod Queues
+pub mod Seats
+pub mod Puts
+pub mod Loads
+pub mod Boards
+pub mod Steps
+pub mod Makings
+pub mod Tried
+pub mod Turns
+pub mod Taken
+pub mod Opens

@@ -1,0 +1,282 @@
+// Calls over cells behind locks of their own.
+ghost use Rattle.std.specs.Prelude.{◌≡◌};
+
+use crate::hub::Hub;
+use crate::site::{Asked, Seat, Site, eight_nodes, plain, remote, two_nodes};
+use crate::stories::{Story, on_eight_nodes, on_two_nodes};
+use commit_journal::Framed;
+use cqc_model::{Instr, PairInfo};
+use history_front::Named;
+use hub_cells::Cell;
+use network_model::{CoreReply, JournalFull};
+use qron_link::CountPatience;
+use std::alloc::Global;
+use std::process::Abort;
+use std::sync::Wait;
+use std::sync::atomic::Ordering::SeqCst;
+use std::test::*;
+
+// The largest word.
+const MOST: u64 = 18_446_744_073_709_551_615;
+
+// What one of two seats asks, and its reply.
+#[derive(Clone, Copy)]
+struct Case {
+    seat: u8,
+    asked: Asked,
+    reply: CoreReply,
+}
+
+// Seat 0 asks at node 0, or seat 1 at node 1.
+fn answered(seat: u8, qubit: u16, instr: Instr, reply: CoreReply) -> Case {
+    Case {
+        seat,
+        asked: plain(seat, qubit, instr),
+        reply,
+    }
+}
+
+// The same with the largest word.
+fn most(case: Case) -> Case {
+    Case {
+        asked: Asked {
+            word: MOST,
+            ..case.asked
+        },
+        ..case
+    }
+}
+
+// Two seats ask in turn. Each reply is the one that is given, and a core on one thread gives the same.
+fn tell<N: Named + Framed, R: Wait + Abort>(
+    rt: &R,
+    alloc: Global,
+    mut site: Site<N>,
+    cases: &[Case],
+) -> Result<(), Fail> {
+    let mut other = site.seat()?;
+    let mut first = site.seat()?;
+    for case in cases {
+        let reply = if case.seat == 0 {
+            first.ask(rt, alloc, &site.hub, case.asked)
+        } else {
+            other.ask(rt, alloc, &site.hub, case.asked)
+        };
+        assert_eq!(rt; reply, Some(case.reply));
+    }
+    site.close(
+        rt,
+        alloc,
+        vec![in alloc; first.pass, other.pass]?,
+        two_nodes(16, 12),
+        cases.len(),
+    )
+}
+
+/// A qubit that was sent away is entangled there, and each of both is found where it is.
+pub(crate) fn forwards<N: Named + Framed, R: Wait + Abort>(
+    rt: &R,
+    alloc: Global,
+    site: Site<N>,
+) -> Result<(), Fail> {
+    let cases = [
+        answered(0, 0, Instr::New, CoreReply::New(0)),
+        answered(0, 0, Instr::New, CoreReply::New(1)),
+        answered(0, 1, Instr::X, CoreReply::Silent),
+        answered(0, 1, Instr::Cnot(0), CoreReply::Silent),
+        answered(0, 0, Instr::Send(remote(1)), CoreReply::Silent),
+        answered(1, 0, Instr::Recv, CoreReply::Received(0)),
+        answered(1, 0, Instr::New, CoreReply::New(1)),
+        answered(1, 0, Instr::Cnot(1), CoreReply::Silent),
+        answered(1, 0, Instr::X, CoreReply::Silent),
+        answered(1, 1, Instr::Measure, CoreReply::Outcome(true)),
+        answered(1, 0, Instr::Measure, CoreReply::Outcome(false)),
+        answered(0, 1, Instr::Measure, CoreReply::Outcome(true)),
+    ];
+    tell(rt, alloc, site, &cases)
+}
+
+#[test]
+fn forwarding(rt: HostRuntime) -> Result<(), Fail> {
+    on_two_nodes(&rt, rt.alloc(), Story::Forwarding, 64)
+}
+
+/// A pair agrees, and teleports a qubit.
+pub(crate) fn makes_pairs<N: Named + Framed, R: Wait + Abort>(
+    rt: &R,
+    alloc: Global,
+    site: Site<N>,
+) -> Result<(), Fail> {
+    let place = remote(0);
+    let other = remote(1);
+    let pair = PairInfo {
+        node_a: place.node,
+        port_a: place.port,
+        app_a: 0,
+        node_b: other.node,
+        port_b: other.port,
+        app_b: 0,
+        pair: 0,
+    };
+    let next = PairInfo { pair: 1, ..pair };
+    let cases = [
+        answered(0, 0, Instr::Epr(other), CoreReply::Pair(0, pair)),
+        answered(1, 0, Instr::EprRecv, CoreReply::Pair(0, pair)),
+        most(answered(1, 0, Instr::Measure, CoreReply::Outcome(false))),
+        answered(0, 0, Instr::Measure, CoreReply::Outcome(false)),
+        answered(0, 0, Instr::Epr(other), CoreReply::Pair(0, next)),
+        answered(0, 0, Instr::New, CoreReply::New(1)),
+        answered(0, 1, Instr::X, CoreReply::Silent),
+        answered(0, 1, Instr::Cnot(0), CoreReply::Silent),
+        answered(0, 1, Instr::H, CoreReply::Silent),
+        answered(0, 0, Instr::Measure, CoreReply::Outcome(true)),
+        answered(1, 0, Instr::EprRecv, CoreReply::Pair(0, next)),
+        answered(0, 1, Instr::Measure, CoreReply::Outcome(true)),
+        answered(1, 0, Instr::X, CoreReply::Silent),
+        answered(1, 0, Instr::Z, CoreReply::Silent),
+        answered(1, 0, Instr::Measure, CoreReply::Outcome(true)),
+    ];
+    tell(rt, alloc, site, &cases)
+}
+
+#[test]
+fn pairs_and_teleportation(rt: HostRuntime) -> Result<(), Fail> {
+    on_two_nodes(&rt, rt.alloc(), Story::Pairs, 64)
+}
+
+/// Calls whose hints are wrong find their cells with all locks.
+pub(crate) fn finds_all<N: Named + Framed, R: Wait + Abort>(
+    rt: &R,
+    alloc: Global,
+    mut site: Site<N>,
+) -> Result<(), Fail> {
+    let mut seat = site.seat()?;
+    for instr in [Instr::New, Instr::New, Instr::Cnot(1), Instr::Measure] {
+        for hint in &site.hub.hints {
+            hint.store(77, SeqCst);
+        }
+        let _reply = seat.ask(rt, alloc, &site.hub, plain(0, 0, instr));
+    }
+    let measured = seat.ask(rt, alloc, &site.hub, plain(0, 1, Instr::Measure));
+    assert!(rt; matches!(measured, Some(CoreReply::Outcome(_))));
+    Ok(())
+}
+
+#[test]
+fn wrong_hints_are_no_harm(rt: HostRuntime) -> Result<(), Fail> {
+    on_two_nodes(&rt, rt.alloc(), Story::WrongHints, 64)
+}
+
+/// Each of the 137 cells is locked again behind a commit that touched it.
+pub(crate) fn locks_every_cell<N: Named + Framed, R: Wait + Abort>(
+    rt: &R,
+    alloc: Global,
+    mut site: Site<N>,
+) -> Result<(), Fail> {
+    let mut second = site.seat()?;
+    let mut first = site.seat()?;
+    let hub = &site.hub;
+    for node in 0..8u8 {
+        for id in 0..16u16 {
+            let new = first.ask(rt, alloc, hub, plain(node, id, Instr::New));
+            assert_eq!(rt; new, Some(CoreReply::New(id)));
+        }
+    }
+    for node in 0..8u8 {
+        for id in 0..16u16 {
+            let turned = second.ask(rt, alloc, hub, plain(node, id, Instr::X));
+            assert_eq!(rt; turned, Some(CoreReply::Silent));
+        }
+    }
+    for node in 0..8u8 {
+        let joined = first.ask(rt, alloc, hub, plain(node, 0, Instr::Cnot(1)));
+        assert_eq!(rt; joined, Some(CoreReply::Silent));
+        let kept = second.ask(rt, alloc, hub, plain(node, 0, Instr::MeasureInplace));
+        assert_eq!(rt; kept, Some(CoreReply::Outcome(true)));
+    }
+    for node in 0..8u8 {
+        for id in 0..16u16 {
+            let measured = first.ask(rt, alloc, hub, plain(node, id, Instr::Measure));
+            assert_eq!(rt; measured, Some(CoreReply::Outcome(id != 1)));
+        }
+    }
+    site.close(
+        rt,
+        alloc,
+        vec![in alloc; first.pass, second.pass]?,
+        eight_nodes(),
+        400,
+    )
+}
+
+#[test]
+fn every_cell(rt: HostRuntime) -> Result<(), Fail> {
+    on_eight_nodes(&rt, rt.alloc(), Story::EveryCell, 1024, 2)
+}
+
+// What a cell tells: whether a next value is there, and how much it has.
+#[derive(Clone, Copy, PartialEq, Eq, Debug)]
+struct Told {
+    ready: bool,
+    held: usize,
+    least: Option<u8>,
+}
+
+// What the cell of a number tells.
+fn state_of<N: Named + Framed, R: Wait>(rt: &R, hub: &Hub<N>, number: u16) -> Option<Told> {
+    if number >= hub.locks.count() {
+        return None;
+    }
+    let mut hold = hub.locks.begin();
+    hold.take(rt, number);
+    let cell = hold.peek(number)?.cell()?;
+    let (held, least) = match cell {
+        Cell::Node(pair) => (usize::from(pair.value().held()), None),
+        Cell::Pool(pair) => (0, pair.now.least_number()),
+        Cell::Slot(slot) => (slot.register.qubits().len(), None),
+    };
+    Some(Told {
+        ready: cell.ready(),
+        held,
+        least,
+    })
+}
+
+/// Where the journal is full nothing changes: two nodes, what is free and a register stay as they were.
+pub(crate) fn finds_no_room<N: Named + Framed, R: Wait + Abort>(
+    rt: &R,
+    alloc: Global,
+    mut site: Site<N>,
+) -> Result<(), Fail> {
+    let mut other = site.seat()?;
+    let mut first = site.seat()?;
+    for instr in [Instr::New, Instr::Send(remote(1))] {
+        let _reply = first.ask(rt, alloc, &site.hub, plain(0, 0, instr));
+    }
+    let before = [0, 1, 2, 3].map(|number| state_of(rt, &site.hub, number));
+    for instr in [Instr::Recv, Instr::New, Instr::Epr(remote(0))] {
+        let mut dice = crate::site::words(alloc, 0)?;
+        let mut patience = CountPatience::new(alloc, 0)?;
+        let answer = other.call(rt, &site.hub, plain(1, 0, instr), &mut dice, &mut patience);
+        assert_eq!(rt; answer, Some(Err(JournalFull { entries: 2 })));
+    }
+    let after = [0, 1, 2, 3].map(|number| state_of(rt, &site.hub, number));
+    assert_eq!(rt; before, after);
+    assert!(rt;
+        after
+            .iter()
+            .all(|told| told.is_some_and(|told| !told.ready))
+    );
+    site.close(
+        rt,
+        alloc,
+        vec![in alloc; first.pass, other.pass]?,
+        two_nodes(16, 12),
+        2,
+    )
+}
+
+#[test]
+fn a_full_journal_changes_no_cell(rt: HostRuntime) -> Result<(), Fail> {
+    on_two_nodes(&rt, rt.alloc(), Story::NoRoom, 2)
+}

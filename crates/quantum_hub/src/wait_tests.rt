@@ -1,0 +1,123 @@
+// Calls that wait.
+ghost use Rattle.std.specs.Prelude.{◌≡◌};
+
+use crate::hub::Hub;
+use crate::site::{Seat, Site, plain, remote, two_nodes};
+use crate::stories::{Story, on_two_nodes};
+use commit_journal::Framed;
+use cqc_model::{Fault, Instr};
+use history_front::Named;
+use network_model::CoreReply;
+use qron_link::{CountPatience, EmptyAt, Patience};
+use std::alloc::Global;
+use std::process::Abort;
+use std::sync::Wait;
+use std::test::*;
+
+/// A receipt gives up after four asks and five looks. Once a qubit was sent, one finds it and asks nothing.
+pub(crate) fn gives_up<N: Named + Framed, R: Wait + Abort>(
+    rt: &R,
+    alloc: Global,
+    mut site: Site<N>,
+) -> Result<(), Fail> {
+    let mut patience = CountPatience::new(alloc, 3)?;
+    let mut sender = site.seat()?;
+    let mut receiver = site.seat()?;
+    let receipt = plain(0, 0, Instr::Recv);
+    let timeout = receiver.ask_with(rt, alloc, &site.hub, receipt, &mut patience);
+    assert_eq!(rt; timeout, Some(CoreReply::Error(Fault::Timeout)));
+    assert_eq!(rt; patience.asked(), 4);
+    let new = sender.ask(rt, alloc, &site.hub, plain(1, 0, Instr::New));
+    assert_eq!(rt; new, Some(CoreReply::New(0)));
+    let sent = sender.ask(rt, alloc, &site.hub, plain(1, 0, Instr::Send(remote(0))));
+    assert_eq!(rt; sent, Some(CoreReply::Silent));
+    let received = receiver.ask_with(rt, alloc, &site.hub, receipt, &mut patience);
+    assert_eq!(rt; received, Some(CoreReply::Received(0)));
+    assert_eq!(rt; patience.asked(), 4);
+    site.close(
+        rt,
+        alloc,
+        vec![in alloc; receiver.pass, sender.pass]?,
+        two_nodes(16, 12),
+        4,
+    )
+}
+
+#[test]
+fn receipts_wait_and_give_up(rt: HostRuntime) -> Result<(), Fail> {
+    on_two_nodes(&rt, rt.alloc(), Story::GivesUp, 64)
+}
+
+// Patience that has a qubit sent by another seat, and then goes on, the first time that it is asked.
+#[derive(Drop)]
+struct Sending<'a, N: Named + Framed, R> {
+    rt: &'a R,
+    alloc: Global,
+    hub: &'a Hub<N>,
+    sender: Seat<N>,
+    more: u32,
+    gave_up: u64,
+    asked: u32,
+}
+
+impl<'a, N: Named + Framed, R: Wait> Patience for Sending<'a, N, R> {
+    ghost use Rattle.std.specs.Prelude.{None, ⊤};
+
+    ghost times = { λ _. 9 };
+
+    ghost more = { λ p. p.more };
+
+    ghost gave_up = { λ p. p.gave_up };
+
+    ghost may_ask = { λ _. ⊤ };
+
+    ghost shown = { λ _. None };
+
+    fn start(&mut self) {
+        self.more = 9;
+    }
+
+    fn again(&mut self, _seen: EmptyAt) -> bool {
+        self.asked = self.asked.saturating_add(1);
+        if self.more == 0 {
+            self.gave_up = self.gave_up.saturating_add(1);
+            return false;
+        }
+        self.more -= 1;
+        let send = plain(1, 0, Instr::Send(remote(0)));
+        let _sent = self.sender.ask(self.rt, self.alloc, self.hub, send);
+        true
+    }
+}
+
+/// A qubit that arrives while a receipt waits is received at the next look.
+pub(crate) fn sends_while_waiting<N: Named + Framed, R: Wait + Abort>(
+    rt: &R,
+    alloc: Global,
+    mut site: Site<N>,
+) -> Result<(), Fail> {
+    let mut sender = site.seat()?;
+    let mut receiver = site.seat()?;
+    let new = sender.ask(rt, alloc, &site.hub, plain(1, 0, Instr::New));
+    assert_eq!(rt; new, Some(CoreReply::New(0)));
+    let mut patience = Sending {
+        rt,
+        alloc,
+        hub: &site.hub,
+        sender,
+        more: 0,
+        gave_up: 0,
+        asked: 0,
+    };
+    let receipt = plain(0, 0, Instr::Recv);
+    let received = receiver.ask_with(rt, alloc, &site.hub, receipt, &mut patience);
+    assert_eq!(rt; received, Some(CoreReply::Received(0)));
+    assert_eq!(rt; patience.asked, 1);
+    assert_eq!(rt; patience.gave_up, 0);
+    Ok(())
+}
+
+#[test]
+fn sent_while_waiting(rt: HostRuntime) -> Result<(), Fail> {
+    on_two_nodes(&rt, rt.alloc(), Story::SentWhileWaiting, 64)
+}
