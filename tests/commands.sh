@@ -31,6 +31,8 @@ expect 'no help' 2 '' 'qron: words' --help
 expect 'a flag behind a command' 2 '' 'qron: words' pipe --help
 expect 'a word too many' 2 '' 'qron: words' pipe a b
 expect 'replay wants two files' 2 '' 'qron: words' replay a
+expect 'serve wants a file' 2 '' 'qron: words' serve
+expect 'serve wants one file' 2 '' 'qron: words' serve a b
 expect 'drill wants a number' 2 '' 'qron: words' drill
 expect 'no round' 2 '' 'qron: words' drill 0
 expect 'too many rounds' 2 '' 'qron: words' drill 100001
@@ -64,10 +66,11 @@ same 'settings are taken' "0 $hello []" "${PIPESTATUS[1]} $(hex out) [$(cat err)
 bytes $hello | "$top/qron" pipe "$top/examples/two_nodes.toml" >out 2>err
 same 'examples/two_nodes.toml' "0 $hello []" "${PIPESTATUS[1]} $(hex out) [$(cat err)]"
 
-# refused NAME: the settings in the file of that name are refused, by both commands that take some
+# refused NAME: the settings in the file of that name are refused, by each command that takes some
 refused() {
     expect "pipe: $1" 1 '' 'qron: settings' pipe "$1"
     expect "replay: $1" 1 '' 'qron: settings' replay "$1" no_such_schedule
+    expect "serve: $1" 1 '' 'qron: settings' serve "$1"
 }
 sed /seed/d settings >'no seed'
 sed 's/limit = 12/limit = 13/' settings >'a limit of 13'
@@ -105,6 +108,23 @@ expect 'a word too many in a line' 1 '' 'qron: schedule line 1' replay settings 
 { echo 'journal = 1'; cat settings; } >'a journal of 1'
 echo 'c 0 100 02010000000000080000010000001101' >schedule
 expect 'a full journal' 5 '0 full 020a00000000000200000214000000000000' '' replay 'a journal of 1' schedule
+
+# ---- serve
+# a port that another program has
+python3 - <<'PYTHON' &
+import os, socket, time
+server = socket.create_server(("127.0.0.1", 0))
+with open("taken.new", "w") as file:
+    file.write(str(server.getsockname()[1]))
+os.rename("taken.new", "taken")
+while not os.path.exists("tried"):
+    time.sleep(0.01)
+PYTHON
+until [ -e taken ]; do sleep 0.01; done
+sed "s/8822/$(cat taken)/" settings >'a port that is taken'
+expect 'a port that is taken' 4 '' 'qron: fault' serve 'a port that is taken'
+: >tried
+wait
 
 # ---- talk
 # served COMMAND SCRIPT: talks by the script to a server of one connection, on which the command reads and writes
@@ -186,7 +206,7 @@ PYTHON
 )"
 }
 at_terminal 'a terminal is told the lines' 'qron: words
-the words are: pipe, pipe <settings>, replay <settings> <schedule>, talk <address> <port> <script>, or drill <rounds>' dance
+the words are: pipe, pipe <settings>, replay <settings> <schedule>, serve <settings>, talk <address> <port> <script>, or drill <rounds>' dance
 at_terminal 'a terminal is told the key' 'qron: settings
 the top table: limit is out of its range, a whole number from 1 to 12 is expected' pipe 'a limit of 13'
 
@@ -195,6 +215,7 @@ mkdir folder
 for name in folder no_such_file; do
     expect "pipe $name" 4 '' 'qron: fault' pipe $name
     expect "replay $name" 4 '' 'qron: fault' replay settings $name
+    expect "serve $name" 4 '' 'qron: fault' serve $name
     expect "talk by $name" 4 '' 'qron: fault' talk 127.0.0.1 1 $name
 done
 
@@ -208,6 +229,7 @@ expect 'the longest schedule' 0 "0 clean $hello" '' replay settings longest
 expect 'a schedule too long' 1 '' 'qron: file too long' replay settings 'too long'
 padded $((most + 1)) settings >'too long'
 expect 'settings too long' 1 '' 'qron: file too long' pipe 'too long'
+expect 'settings too long to serve' 1 '' 'qron: file too long' serve 'too long'
 padded $((most + 1)) script >'too long'
 expect 'a script too long' 1 '' 'qron: file too long' talk 127.0.0.1 1 'too long'
 

@@ -108,6 +108,7 @@ impl<N: Named + Framed> Journal<N> {
         ensures entries { IfOk result (λ v. v.items ≡ self) }
         ensures legal { IfOk result (λ v. IsLegal N.shape v.items) }
         ensures made { IfOk result (λ v. HaveMade passes.items v.items) }
+        ensures most { IfOk result (λ v. vec_len v ≤ N.capacity) }
     {
         for place in 0..passes.len() {
             if let Err(stale) = self.counted(&mut passes[place]) {

@@ -10,3 +10,10 @@ pub mod Sayings
 pub mod Finishes
 pub mod MemoryEnds
 pub mod SharedCalls
+pub mod Fronts
+pub mod Records
+pub mod Zipped
+pub mod Walking
+pub mod Servings
+pub mod Connections
+pub mod Working

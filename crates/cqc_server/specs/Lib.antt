@@ -3,3 +3,7 @@ pub mod Progress
 pub mod InMemory
 pub mod Shared
 pub mod SharedLaws
+pub mod Watch
+pub mod Record
+pub mod Working
+pub mod Leaving

@@ -1,12 +1,13 @@
 -- Calls of a connection over a shared core, one after the other.
-use Rattle.std.specs.Prelude.{◌≡◌, ℕ, ◌+◌, ◌≤◌, ◌-◌, List, [], ◌++◌}
+use Rattle.std.specs.Prelude.{◌≡◌, ℕ, ◌≤◌, List, [], ◌++◌}
 use Rattle.std.proofs.Common.{refl, sym, ap, subst, ◌∙◌, arith, append_assoc}
 use Rattle.std.proofs.lemmas.List.{append-nil}
 use Rattle.network_model.specs.declared.Entry.{Entry}
 use Rattle.cqc_session.specs.SoloLaws.{word_is}
 use Rattle.cqc_server.specs.Shared.{AtWork, own, WordedBehind, GaveUpEnough, HasWorked}
 
-enough_on : (a b c : List Entry) (x y z : ℕ) → y ≤ z → GaveUpEnough a b x y → GaveUpEnough b c y z → GaveUpEnough a c x z
+-- the same of entries one after the other
+pub enough_on : (a b c : List Entry) (x y z : ℕ) → y ≤ z → GaveUpEnough a b x y → GaveUpEnough b c y z → GaveUpEnough a c x z
 enough_on a b c x y z rises first second = λ few. omega (arith, first (omega (arith, rises, few)), second few)
 
 -- nothing was executed

@@ -49,11 +49,12 @@ impl<N: Named + Framed, R: Wait, D: Dice, P: Patience> Core for AtWork<'_, N, R,
         HasWorked D.word
         (record { pass = a.pass.now; key = D.key a.dice.now; seat = D.begun_seat a.dice.now; serial = D.begun_serial a.dice.now; taken = D.taken a.dice.now; gave_up = P.gave_up a.patience.now; full = a.full })
         (record { pass = b.pass.now; key = D.key b.dice.now; seat = D.begun_seat b.dice.now; serial = D.begun_serial b.dice.now; taken = D.taken b.dice.now; gave_up = P.gave_up b.patience.now; full = b.full })
-        × (b.pass.ghost_name ≡ a.pass.ghost_name) × (b.dice.ghost_name ≡ a.dice.ghost_name) × (b.patience.ghost_name ≡ a.patience.ghost_name) };
+        × (b.pass.ghost_name ≡ a.pass.ghost_name) × (b.dice.ghost_name ≡ a.dice.ghost_name) × (b.patience.ghost_name ≡ a.patience.ghost_name)
+        × (P.times b.patience.now ≡ P.times a.patience.now) };
 
-    ghost leads_nowhere = { λ a. (worked_nothing D.word _, refl, refl, refl) };
+    ghost leads_nowhere = { λ a. (worked_nothing D.word _, refl, refl, refl, refl) };
 
-    ghost leads_on = { λ a b c x y. (worked_on D.word _ _ _ x.0 y.0, y.1 ∙ x.1, y.2 ∙ x.2, y.3 ∙ x.3) };
+    ghost leads_on = { λ a b c x y. (worked_on D.word _ _ _ x.0 y.0, y.1 ∙ x.1, y.2 ∙ x.2, y.3 ∙ x.3, y.4 ∙ x.4) };
 
     fn execute(&mut self, call: &Call) -> Result<CoreReply, JournalFull> {
         // the number is one of 32 bits
@@ -92,6 +93,7 @@ pub fn serve_session<'w, N: Named + Framed, L: Link, D: Dice, P: Patience>(
     ensures pass { pass.new.seat ≡ pass.old.seat }
     ensures key { D.key dice.new ≡ D.key dice.old }
     ensures gave_up { P.gave_up patience.old ≤ P.gave_up patience.new }
+    ensures times { P.times patience.new ≡ P.times patience.old }
     ensures cause { EndCause result (L.read_faults link.old) (L.read_faults link.new) (L.write_faults link.old) (L.write_faults link.new) }
     ensures led { L.was_led link.old link.new }
     ensures closed { session.new.stage ≡ Closed }

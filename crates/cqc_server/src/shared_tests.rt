@@ -16,12 +16,12 @@ use std::test::*;
 use virtual_node::Shape;
 
 // EPR with the other node, and MEASURE of 0; the other's EPR_RECV, and MEASURE of 0.
-const MAKER: &str = "020100000000001000000700000022767f00000100000200";
+pub(crate) const MAKER: &str = "020100000000001000000700000022767f00000100000200";
 
-const TAKER: &str = "02010000000000080000080000000200";
+pub(crate) const TAKER: &str = "02010000000000080000080000000200";
 
 // Two nodes on this machine.
-fn two_nodes() -> Shape
+pub(crate) fn two_nodes() -> Shape
     ensures { length result.places ≡ 2 }
 {
     let places = [

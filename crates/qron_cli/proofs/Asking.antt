@@ -1,8 +1,12 @@
 -- What one ask leaves of what a house tells.
-use Rattle.std.proofs.Common.{◌≡◌, ℕ, List, [], ◌∷◌, ◌++◌, drop, Option, None, Some, sym, ap, subst, ◌∙◌, inl, inr}
-use Rattle.std.specs.Prelude.{◌⊎◌, IfSome, IsSomeAnd, option_map, length, ◌<◌}
-use Rattle.qron_cli.specs.House.{Ask, Facts, Allows, WasAsked, IsFile, IsTooLong, file_limit}
-use Rattle.qron_cli.specs.Files.{Holds, SaysSchedule, NoSchedule}
+use Rattle.std.proofs.Common.{◌≡◌, ℕ, List, [], ◌∷◌, ◌++◌, drop, Option, None, Some, refl, sym, ap, subst, ◌∙◌, inl, inr}
+use Rattle.std.proofs.lemmas.Bool.{false≢true}
+use Rattle.std.specs.Prelude.{◌⊎◌, IfSome, IsSome, IsSomeAnd, option_map, length, ◌<◌, Ok, Result}
+use Rattle.node_table.specs.declared.settings.Settings.{Settings}
+use Rattle.node_table.specs.declared.settings.SettingsFault.{SettingsFault}
+use Rattle.node_table.specs.Document.{settings_of}
+use Rattle.qron_cli.specs.House.{Ask, ask_file, ask_posts, asks_by, asks_in, asks_behind, Facts, Allows, TellsFiles, WasAsked, IsFile, IsTooLong, file_limit}
+use Rattle.qron_cli.specs.Files.{Holds, SaysSettings, SaysSchedule, NoSchedule}
 use Rattle.schedule.specs.Plans.{Plans}
 
 -- where several asks are allowed, the first is
@@ -22,6 +26,26 @@ next_allowed a others before after h asked = of_asks before.asks after.asks h as
     of_asks None p h e = subst (λ (x : Option (List Ask)). IfSome x (λ allowed. (rest : List Ask) × (allowed ≡ others ++ rest))) (sym e) tt
     of_asks (Some allowed) p (rest, is) e =
         subst (λ (x : Option (List Ask)). IfSome x (λ now. (rest : List Ask) × (now ≡ others ++ rest))) (sym e) (rest, ap (λ asks. drop 1 asks) is)
+
+-- the posts of the settings that a file says are asked for behind it
+pub asks_said : (files : List ℕ → Option (List ℕ)) (name text : List ℕ) (s : Settings) → files name ≡ Some text → settings_of text ≡ Ok s → asks_behind (Some files) name ≡ ask_posts s ∷ []
+asks_said files name text s there says = ap asks_in there ∙ ap asks_by says
+
+-- where they are allowed behind the file, they are once it was read
+pub posts_allowed : (name : List ℕ) (s : Settings) (before after : Facts) → TellsFiles before → SaysSettings before name s
+    → Allows (ask_file name ∷ asks_behind before.files name) before → WasAsked before after → Allows (ask_posts s ∷ []) after
+posts_allowed name s before after tells (text, holds, says) h asked = of_asks before.asks refl
+  where
+    of_files : (files : Option (List ℕ → Option (List ℕ))) → IsSome files → IfSome files (λ file. file name ≡ Some text) → asks_behind files name ≡ ask_posts s ∷ []
+    of_files None told there = absurd (false≢true told)
+    of_files (Some file) told there = asks_said file name text s there says
+
+    of_asks : (o : Option (List Ask)) → before.asks ≡ o → Allows (ask_posts s ∷ []) after
+    of_asks None e =
+        subst (λ (x : Option (List Ask)). IfSome x (λ allowed. (rest : List Ask) × (allowed ≡ (ask_posts s ∷ []) ++ rest))) (sym (asked.asks ∙ ap (option_map (λ asks. drop 1 asks)) e)) tt
+    of_asks (Some allowed) e =
+        let told : IsSome before.files = subst (λ (x : Option (List Ask)). IfSome x (λ _. IsSome before.files)) e tells in
+        subst (λ others. Allows others after) (of_files before.files told holds.bytes) (next_allowed (ask_file name) (asks_behind before.files name) before after h asked)
 
 -- what files hold is as it was
 pub holds_before : (before after : Facts) (name text : List ℕ) → WasAsked before after → Holds after name text → Holds before name text

@@ -9,7 +9,7 @@ use Rattle.std.proofs.lemmas.List.Elements.{All-nil, All-cons, All-append}
 use Rattle.text_lines.specs.Words.{number_up_to, number_between, address_of}
 use Rattle.text_lines.proofs.NumberLemmas.{number_up_to-Some}
 use Rattle.cqc_client.specs.Drill.{turns, in_rounds}
-use Rattle.word_lines.specs.Lines.{pipe, replay, talk, drill, is_dashed, pipe_line, replay_line, talk_line, drill_line, line_behind, line_of}
+use Rattle.word_lines.specs.Lines.{pipe, replay, serve, talk, drill, is_dashed, pipe_line, replay_line, serve_line, talk_line, drill_line, line_behind, line_of}
 use Rattle.cqc_client.specs.Drill.{first_list, second_list, IsDrill}
 use Rattle.cqc_client.specs.Tally.{lines_of}
 use Rattle.cqc_client.specs.declared.plan.DrillPlan.{DrillPlan}
@@ -25,7 +25,7 @@ use Rattle.qron_cli.specs.Pipe.{AllWords}
 use Rattle.qron_cli.specs.Program.{IsLine}
 use Rattle.qron_cli.specs.Replay.{PlansPlayed}
 use Rattle.qron_cli.specs.Seats.{CanPlay}
-use Rattle.qron_cli.specs.Seen.{Seen}
+use Rattle.cqc_server.specs.Watch.{LinkSeen}
 use Rattle.qron_cli.specs.declared.status.Status.{Status}
 
 abbrev pub plan_with : ℕ → ℕ → List ℕ → Plan
@@ -77,7 +77,7 @@ can_play rounds s one two items first second order = record {
 }
 
 -- what was played of a schedule that is the drill's
-pub drilled_by : (word : AllWords) (rounds : ℕ) (facts : Facts) (s : Settings) (p : Plans) (old new : Seen) (status : Status) → s ≡ drill_settings rounds → p ≡ drill_plans rounds
+pub drilled_by : (word : AllWords) (rounds : ℕ) (facts : Facts) (s : Settings) (p : Plans) (old new : LinkSeen) (status : Status) → s ≡ drill_settings rounds → p ≡ drill_plans rounds
     → PlansPlayed word facts s p (λ entries ends. lines_of (summary_of rounds entries ends)) old new status → Drilled word rounds facts old new status
 drilled_by word rounds facts s p old new status by_settings by_plans h =
     subst (λ (x : Settings). PlansPlayed word facts x (drill_plans rounds) (λ entries ends. lines_of (summary_of rounds entries ends)) old new status) by_settings
@@ -130,6 +130,11 @@ by_replay n (a ∷ []) e = cc
 by_replay n (a ∷ b ∷ []) e = cc
 by_replay n (a ∷ b ∷ c ∷ later) e = cc
 
+by_serve : (n : ℕ) (later : List (List ℕ)) → serve_line later ≡ Some (drill n) → ⊥
+by_serve n [] e = cc
+by_serve n (a ∷ []) e = cc
+by_serve n (a ∷ b ∷ later) e = cc
+
 by_talk : (n : ℕ) (later : List (List ℕ)) → talk_line later ≡ Some (drill n) → ⊥
 by_talk n [] e = cc
 by_talk n (a ∷ []) e = cc
@@ -152,11 +157,14 @@ by_first n first later e =
       | inl p ↦ absurd (by_pipe n later p)
       | inr o ↦ elim (chosen (bytes_eq first (codes "replay")) (replay_line later) _ (Some (drill n)) o) [
         | inl p ↦ absurd (by_replay n later p)
-        | inr o ↦ elim (chosen (bytes_eq first (codes "talk")) (talk_line later) _ (Some (drill n)) o) [
-          | inl p ↦ absurd (by_talk n later p)
-          | inr o ↦ elim (chosen (bytes_eq first (codes "drill")) (drill_line later) None (Some (drill n)) o) [
-            | inl p ↦ by_drill n later p
-            | inr o ↦ cc
+        | inr o ↦ elim (chosen (bytes_eq first (codes "serve")) (serve_line later) _ (Some (drill n)) o) [
+          | inl p ↦ absurd (by_serve n later p)
+          | inr o ↦ elim (chosen (bytes_eq first (codes "talk")) (talk_line later) _ (Some (drill n)) o) [
+            | inl p ↦ absurd (by_talk n later p)
+            | inr o ↦ elim (chosen (bytes_eq first (codes "drill")) (drill_line later) None (Some (drill n)) o) [
+              | inl p ↦ by_drill n later p
+              | inr o ↦ cc
+            ]
           ]
         ]
       ]

@@ -1,8 +1,10 @@
-pub mod Serving
+pub mod Piping
 pub mod Asking
 pub mod Answering
 pub mod Seating
 pub mod LineLemmas
 pub mod Talks
 pub mod Programs
+pub mod PostLemmas
+pub mod ServeLemmas
 pub mod DrillLemmas

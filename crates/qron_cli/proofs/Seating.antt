@@ -18,10 +18,11 @@ use Rattle.cqc_session.specs.State.{State, begun}
 use Rattle.cqc_server.specs.Replay.{HasBegun}
 use Rattle.cqc_server.specs.Replay as replay
 use Rattle.cqc_server.specs.InMemory.{IsUnused, planned_actor}
-use Rattle.qron_cli.specs.Pipe.{AllWords, read_limit}
+use Rattle.cqc_server.specs.Record.{read_limit}
+use Rattle.qron_cli.specs.Pipe.{AllWords}
 use Rattle.qron_cli.specs.Seats.{Seat, connection_at, planned, all_planned, piece, seated, all_seated, ends_of}
-use Rattle.qron_cli.specs.Seen.{Printed}
-use Rattle.qron_cli.specs.Seen as Printing
+use Rattle.qron_cli.specs.Printed.{Printed}
+use Rattle.cqc_server.specs.Watch.{LinkSeen}
 use Rattle.qron_cli.specs.declared.status.Status.{Status}
 
 -- the actor of the definition of turns that sits at a seat
@@ -172,10 +173,10 @@ models_are seen seat word key same xs ys plans value is =
     ap (λ zs. map (planned_actor word) (map seen zs)) value ∙ planned_are seen seat word same xs ∙ ap (map (actor_by word)) is ∙ actors_are word key 0 plans
 
 -- what was printed, said of the same text, outcome and pipe
-pub printed_by : (text same : List ℕ) (done then_done : Status) (old before new : Printing.Seen) (status : Status) → text ≡ same → done ≡ then_done → old ≡ before
+pub printed_by : (text same : List ℕ) (done then_done : Status) (old before new : LinkSeen) (status : Status) → text ≡ same → done ≡ then_done → old ≡ before
     → Printed text done old new status → Printed same then_done before new status
 printed_by text same done then_done old before new status p q r h =
-    subst (λ (o : Printing.Seen). Printed same then_done o new status) r
+    subst (λ (o : LinkSeen). Printed same then_done o new status) r
     (subst (λ (d : Status). Printed same d old new status) q (subst (λ (t : List ℕ). Printed t done old new status) p h))
 
 -- as many connections have ended as there are

@@ -12,7 +12,7 @@ use Rattle.cqc_client.specs.Tally.{equal, ones, lines_of}
 use Rattle.qron_cli.specs.House.{Facts}
 use Rattle.qron_cli.specs.Pipe.{AllWords}
 use Rattle.qron_cli.specs.Replay.{PlansPlayed}
-use Rattle.qron_cli.specs.Seen.{Seen}
+use Rattle.cqc_server.specs.Watch.{LinkSeen}
 use Rattle.qron_cli.specs.Stops.{Stopped}
 use Rattle.qron_cli.specs.declared.status.Status.{Status}
 
@@ -48,10 +48,10 @@ summary_of rounds entries ends = record {
 }
 
 -- the two connections took their turns from the empty history, with the words of a seed of zeros, and the summary was printed
-abbrev pub Drilled : AllWords → ℕ → Facts → Seen → Seen → Status → Type 0
+abbrev pub Drilled : AllWords → ℕ → Facts → LinkSeen → LinkSeen → Status → Type 0
 Drilled word rounds facts old new status =
     PlansPlayed word facts (drill_settings rounds) (drill_plans rounds) (λ entries ends. lines_of (summary_of rounds entries ends)) old new status
 
 -- it stopped, or the drill was done
-abbrev pub DrillRan : AllWords → ℕ → Facts → Facts → Seen → Seen → Status → Type 0
+abbrev pub DrillRan : AllWords → ℕ → Facts → Facts → LinkSeen → LinkSeen → Status → Type 0
 DrillRan word rounds before after old new status = Stopped ⊥ before after old new status ⊎ Drilled word rounds before old new status

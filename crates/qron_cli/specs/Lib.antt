@@ -1,6 +1,7 @@
 pub mod House
+pub mod Posts
 pub mod Statuses
-pub mod Seen
+pub mod Printed
 pub mod Files
 pub mod Stops
 pub mod Pipe
@@ -8,5 +9,6 @@ pub mod Seats
 pub mod Lines
 pub mod Replay
 pub mod Talk
+pub mod Serve
 pub mod Drill
 pub mod Program

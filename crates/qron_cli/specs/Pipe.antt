@@ -1,5 +1,5 @@
 -- One connection on the pipe, over a core of its own.
-use Rattle.std.specs.Prelude.{◌≡◌, ◌≢◌, ◌⊎◌, ℕ, ◌≤◌, ◌^◌, List, [], length, replicate, Option, None}
+use Rattle.std.specs.Prelude.{◌≡◌, ◌≢◌, ◌⊎◌, ℕ, ◌≤◌, List, [], length, replicate, Option, None}
 use Rattle.network_model.specs.Network.{Shape}
 use Rattle.network_model.specs.History.{IsLegal}
 use Rattle.network_model.specs.declared.Entry.{Entry}
@@ -12,10 +12,11 @@ use Rattle.session_model.specs.Worded.{AreWorded}
 use Rattle.qron_link.specs.Outside.{WasRead, WasWritten}
 use Rattle.factored_core.specs.Core.{Journal}
 use Rattle.cqc_session.specs.Session.{EndCause}
+use Rattle.cqc_server.specs.Record.{read_limit}
 use Rattle.node_table.specs.declared.settings.Settings.{Settings}
 use Rattle.qron_cli.specs.House.{Facts}
 use Rattle.qron_cli.specs.Files.{SaysSettings, NoSettings}
-use Rattle.qron_cli.specs.Seen.{Seen}
+use Rattle.cqc_server.specs.Watch.{LinkSeen}
 use Rattle.qron_cli.specs.Stops.{Stopped}
 use Rattle.qron_cli.specs.declared.status.Status.{Status}
 use Rattle.qron_cli.specs.Statuses.{status_of, outcome_of}
@@ -27,10 +28,6 @@ AllWords = List ℕ → ℕ → ℕ → ℕ → ℕ
 -- the one connection
 abbrev pub pipe_connection : Connection
 pipe_connection = record { seat = 0; serial = 0; node = 0 }
-
--- the most bytes that are read on a connection
-abbrev pub read_limit : ℕ
-read_limit = 2 ^ 32
 
 -- the journal of a network with these settings, with these entries
 abbrev pub journal_of : Settings → List Entry → Journal
@@ -48,7 +45,7 @@ pipe_actor words read = record { connection = pipe_connection; words = words; in
 -- made, the bytes written and the ending are those of one connection that takes turns alone, from the empty history;
 -- its words are those of the dice, and it ends before its last turn only where the pipe took no more. A fault ends it
 -- only where its own side failed once more.
-pub record PipeServed (shape : Shape) (capacity : ℕ) (words : ℕ → ℕ) (old new : Seen) (ending : Ending) : Type 0 where
+pub record PipeServed (shape : Shape) (capacity : ℕ) (words : ℕ → ℕ) (old new : LinkSeen) (ending : Ending) : Type 0 where
   pub read : List ℕ
   pub written : List ℕ
   pub entries : List Entry
@@ -67,16 +64,16 @@ abbrev pub pipe_words : AllWords → Facts → List ℕ → ℕ → ℕ
 pipe_words word facts seed k = word (facts.keys seed) 0 0 k
 
 -- the pipe was served with these settings, and the status is that of the ending
-abbrev pub PipeAnswered : AllWords → Facts → Settings → Seen → Seen → Status → Type 0
+abbrev pub PipeAnswered : AllWords → Facts → Settings → LinkSeen → LinkSeen → Status → Type 0
 PipeAnswered word facts s old new status =
     (ending : Ending) × PipeServed s.shape s.journal (pipe_words word facts s.seed) old new ending × (status ≡ status_of (outcome_of ending))
 
 -- it stopped, or the pipe was served with these settings
-abbrev pub PipeRan : AllWords → Settings → Facts → Facts → Seen → Seen → Status → Type 0
+abbrev pub PipeRan : AllWords → Settings → Facts → Facts → LinkSeen → LinkSeen → Status → Type 0
 PipeRan word s before after old new status = Stopped ⊥ before after old new status ⊎ PipeAnswered word before s old new status
 
 -- it stopped, or the pipe was served with the settings of a file
-abbrev pub PipeWithRan : AllWords → List ℕ → Facts → Facts → Seen → Seen → Status → Type 0
+abbrev pub PipeWithRan : AllWords → List ℕ → Facts → Facts → LinkSeen → LinkSeen → Status → Type 0
 PipeWithRan word name before after old new status =
     Stopped (NoSettings before name) before after old new status
     ⊎ ((s : Settings) × SaysSettings before name s × PipeAnswered word before s old new status)

@@ -9,7 +9,8 @@ use Rattle.schedule.specs.Plans.{Plan}
 use Rattle.schedule.specs.declared.plans.Schedule.{Schedule}
 use Rattle.qron_link.specs.MemLinks.{Memory, new_memory}
 use Rattle.cqc_session.specs.State.{State, begun}
-use Rattle.qron_cli.specs.Pipe.{AllWords, read_limit}
+use Rattle.cqc_server.specs.Record.{read_limit}
+use Rattle.qron_cli.specs.Pipe.{AllWords}
 
 -- the first connection of a seat, at the plan's node
 abbrev pub connection_at : ℕ → Plan → Connection

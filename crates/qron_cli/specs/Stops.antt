@@ -2,7 +2,7 @@
 use Rattle.std.specs.Prelude.{◌≡◌}
 use Rattle.qron_link.specs.Outside.{Rose}
 use Rattle.qron_cli.specs.House.{Facts}
-use Rattle.qron_cli.specs.Seen.{Seen}
+use Rattle.cqc_server.specs.Watch.{LinkSeen}
 use Rattle.qron_cli.specs.declared.status.Status.{Status}
 use Rattle.qron_cli.specs.declared.status.Status.TheVariants.{Done, Refused, Words, Memory, Fault, Unfinished}
 
@@ -17,5 +17,5 @@ StoppedAs refused old new Words = ⊥
 StoppedAs refused old new Unfinished = ⊥
 
 -- a command stopped before it did anything, and the pipe is as it was
-abbrev pub Stopped : Type 0 → Facts → Facts → Seen → Seen → Status → Type 0
+abbrev pub Stopped : Type 0 → Facts → Facts → LinkSeen → LinkSeen → Status → Type 0
 Stopped refused before after old new status = StoppedAs refused before after status × (new ≡ old)

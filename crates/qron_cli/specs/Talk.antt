@@ -9,7 +9,7 @@ use Rattle.script.specs.Sendable.{IsSendable}
 use Rattle.script.specs.declared.fault.ScriptFault.{ScriptFault}
 use Rattle.qron_cli.specs.House.{Facts, IsTooLong}
 use Rattle.qron_cli.specs.Files.{Means}
-use Rattle.qron_cli.specs.Seen.{Seen}
+use Rattle.cqc_server.specs.Watch.{LinkSeen}
 use Rattle.qron_cli.specs.Stops.{Stopped}
 use Rattle.qron_cli.specs.Statuses.{status_of}
 use Rattle.qron_cli.specs.declared.complaint.Complaint.{Complaint}
@@ -41,7 +41,7 @@ abbrev pub CanTalk : List Sending → Type 0
 CanTalk script = (length script < 2 ^ 32) × All IsSendable script
 
 -- a link that was handed out between two moments, as it is seen first, and as it is seen at last
-pub record Handed {L : Type 0} (seen : L → Seen) (was_led : L → L → Type 0) (old new : Option (List L)) (first last : Seen) : Type 0 where
+pub record Handed {L : Type 0} (seen : L → LinkSeen) (was_led : L → L → Type 0) (old new : Option (List L)) (first last : LinkSeen) : Type 0 where
   pub link : L
   pub left : L
   pub handed : new ≡ option_map (λ links. links ++ (link ∷ [])) old
@@ -62,7 +62,7 @@ outcome_of_talk talked.OutWrite = Err complaint.Fault
 -- The messages of a script were sent over a link that led from the first to the last, and the lines of the replies
 -- printed, up to the answer, of which the status is. A fault is answered only where its own side failed once more.
 -- Nothing was read from the pipe.
-pub record Spoke (script : List Sending) (first last old new : Seen) (status : Status) : Type 0 where
+pub record Spoke (script : List Sending) (first last old new : LinkSeen) (status : Status) : Type 0 where
   pub answer : Talked
   pub said : Said
   pub moved : Moved said first.left last.left first.held last.held old.held new.held
@@ -76,19 +76,19 @@ pub record Spoke (script : List Sending) (first last old new : Seen) (status : S
   pub is : status ≡ status_of (outcome_of_talk answer)
 
 -- memory was short and nothing was done, or the messages were sent over the link
-abbrev pub SpokeOver : List Sending → Seen → Seen → Seen → Seen → Status → Type 0
+abbrev pub SpokeOver : List Sending → LinkSeen → LinkSeen → LinkSeen → LinkSeen → Status → Type 0
 SpokeOver script first last old new status = ((status ≡ Memory) × (new ≡ old)) ⊎ Spoke script first last old new status
 
 -- the messages of a script were sent over a link that the house handed out
-abbrev pub SpokeAt : (Seen → Seen → Type 0) → List Sending → Seen → Seen → Status → Type 0
-SpokeAt handed script old new status = (first : Seen) × (last : Seen) × handed first last × Spoke script first last old new status
+abbrev pub SpokeAt : (LinkSeen → LinkSeen → Type 0) → List Sending → LinkSeen → LinkSeen → Status → Type 0
+SpokeAt handed script old new status = (first : LinkSeen) × (last : LinkSeen) × handed first last × Spoke script first last old new status
 
 -- it stopped, or the messages of a script were sent over a link that the house handed out
-abbrev pub TalkAtRan : (Seen → Seen → Type 0) → List Sending → Facts → Facts → Seen → Seen → Status → Type 0
+abbrev pub TalkAtRan : (LinkSeen → LinkSeen → Type 0) → List Sending → Facts → Facts → LinkSeen → LinkSeen → Status → Type 0
 TalkAtRan handed script before after old new status = Stopped ⊥ before after old new status ⊎ SpokeAt handed script old new status
 
 -- the same of the messages of a file
-abbrev pub TalkRan : (Seen → Seen → Type 0) → List ℕ → Facts → Facts → Seen → Seen → Status → Type 0
+abbrev pub TalkRan : (LinkSeen → LinkSeen → Type 0) → List ℕ → Facts → Facts → LinkSeen → LinkSeen → Status → Type 0
 TalkRan handed name before after old new status =
     Stopped (NoScript before name) before after old new status
     ⊎ ((script : List Sending) × SaysScript before name script × SpokeAt handed script old new status)

@@ -3,7 +3,9 @@ use crate::mem_house::{MOST, answer_with, ended, faultless, first_wrong, spelled
 use crate::status::Status;
 use hex::encode;
 use std::alloc::Global;
+use std::sync::Wait;
 use std::test::Fail;
+use std::thread::Threads;
 
 // Messages as hexadecimal texts, each so many times; the words of the dice; how many NEW are answered first, and the
 // replies behind these.
@@ -27,10 +29,14 @@ fn replies_of(alloc: Global, circuit: &Circuit<'_>) -> Result<String, Fail> {
 }
 
 // The first circuit that isn't answered so.
-fn first_wrong_circuit(alloc: Global, circuits: &[Circuit<'_>]) -> Result<Option<usize>, Fail> {
+fn first_wrong_circuit<R: Threads + Wait + Sync>(
+    rt: &R,
+    alloc: Global,
+    circuits: &[Circuit<'_>],
+) -> Result<Option<usize>, Fail> {
     for (place, circuit) in circuits.iter().enumerate() {
         let input = spelled(alloc, circuit.messages)?;
-        let got = answer_with(alloc, input, faultless(circuit.words, 4096))?;
+        let got = answer_with(rt, alloc, input, faultless(circuit.words, 4096))?;
         let replies = replies_of(alloc, circuit)?;
         if got != ended(alloc, Status::Done, replies.as_str())? {
             return Ok(Some(place));
@@ -77,7 +83,7 @@ fn first_refusal_decides(rt: HostRuntime) -> Result<(), Fail> {
             replies: error,
         };
         assert_eq!(rt;
-            first_wrong_circuit(rt.alloc(), &[circuit])?,
+            first_wrong_circuit(&rt, rt.alloc(), &[circuit])?,
             None,
             "{message}"
         );
@@ -100,7 +106,7 @@ fn entangled_qubits_agree(rt: HostRuntime) -> Result<(), Fail> {
         (by_cphase, [0, MOST], ones),
         (by_cphase, [MOST, 0], zeros),
     ];
-    assert_eq!(rt; first_wrong(rt.alloc(), &cases, &[7])?, None);
+    assert_eq!(rt; first_wrong(&rt, rt.alloc(), &cases, &[7])?, None);
     Ok(())
 }
 
@@ -150,7 +156,7 @@ fn qubits_end_at_a_nodes_room_and_a_groups_limit(rt: HostRuntime) -> Result<(), 
             replies: "020700000000000100020700000000000101",
         },
     ];
-    assert_eq!(rt; first_wrong_circuit(rt.alloc(), &circuits)?, None);
+    assert_eq!(rt; first_wrong_circuit(&rt, rt.alloc(), &circuits)?, None);
     Ok(())
 }
 
@@ -185,7 +191,7 @@ fn gates_are_refused_where_states_are_too_large(rt: HostRuntime) -> Result<(), F
             replies: "0207000000000001000204000000000000",
         },
     ];
-    assert_eq!(rt; first_wrong_circuit(rt.alloc(), &circuits)?, None);
+    assert_eq!(rt; first_wrong_circuit(&rt, rt.alloc(), &circuits)?, None);
     Ok(())
 }
 
@@ -212,7 +218,7 @@ fn product_is_refused_where_it_is_too_large(rt: HostRuntime) -> Result<(), Fail>
             replies: last,
         };
         assert_eq!(rt;
-            first_wrong_circuit(rt.alloc(), &[circuit])?,
+            first_wrong_circuit(&rt, rt.alloc(), &[circuit])?,
             None,
             "{last}"
         );

@@ -73,7 +73,7 @@ fn schedules_are_replayed(rt: HostRuntime) -> Result<(), Fail> {
             files: &files,
             ..faultless([0, 0], 7)
         };
-        let got = printed_with(rt.alloc(), given)?;
+        let got = printed_with(&rt, rt.alloc(), given)?;
         assert_eq!(rt; got.text.as_str(), case.text);
         assert_eq!(rt; got.status, case.status, "{}", case.text);
         assert_eq!(rt; got.said, case.said, "{}", case.text);
@@ -98,7 +98,7 @@ fn what_fails_is_a_fault(rt: HostRuntime) -> Result<(), Fail> {
         },
     ];
     for given in cases {
-        let got = printed_with(rt.alloc(), given)?;
+        let got = printed_with(&rt, rt.alloc(), given)?;
         assert_eq!(rt; got.text.as_str(), "");
         assert_eq!(rt; got.status, Status::Fault);
         assert_eq!(rt; got.said, Some(Complaint::Fault));

@@ -11,9 +11,9 @@ pub fn write_detail<E: Write>(errors: &mut E, complaint: &Complaint) -> io::Resu
         Complaint::Settings(fault) => return write_settings_detail(errors, fault),
         Complaint::Memory => return Ok(()),
         Complaint::Words => {
-            "the words are: pipe, pipe <settings>, replay <settings> <schedule>, talk <address> <port> <script>, or drill <rounds>"
+            "the words are: pipe, pipe <settings>, replay <settings> <schedule>, serve <settings>, talk <address> <port> <script>, or drill <rounds>"
         }
-        Complaint::Fault => "a file, the place or the pipe could not be used",
+        Complaint::Fault => "a file, a place or the pipe could not be used",
         Complaint::Schedule(fault) => schedule_detail(fault.why),
         Complaint::Script(fault) => script_detail(fault.why),
         Complaint::FileTooLong => "a file has at most 16,777,216 bytes",

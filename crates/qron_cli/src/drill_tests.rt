@@ -14,7 +14,7 @@ fn drilled<'a>(args: &'a [&'a str]) -> Given<'a> {
 
 #[test]
 fn three_rounds_are_summed_up(rt: HostRuntime) -> Result<(), Fail> {
-    let got = printed_with(rt.alloc(), drilled(&["drill", "3"]))?;
+    let got = printed_with(&rt, rt.alloc(), drilled(&["drill", "3"]))?;
     assert_eq!(rt;
         got.text.as_str(),
         "rounds 3\nentries 21\nequal 3\nones 2\nbytes 177 177\n"
@@ -26,7 +26,7 @@ fn three_rounds_are_summed_up(rt: HostRuntime) -> Result<(), Fail> {
 
 #[test]
 fn each_turn_of_many_rounds_is_an_entry(rt: HostRuntime) -> Result<(), Fail> {
-    let got = printed_with(rt.alloc(), drilled(&["drill", "100"]))?;
+    let got = printed_with(&rt, rt.alloc(), drilled(&["drill", "100"]))?;
     let text = got.text.as_str();
     assert!(rt; text.starts_with("rounds 100\nentries 700\nequal 100\nones "));
     assert!(rt; text.ends_with("\nbytes 5900 5900\n"));
@@ -40,7 +40,7 @@ fn summary_that_is_not_taken_is_a_fault(rt: HostRuntime) -> Result<(), Fail> {
         bad_write: Some(0),
         ..drilled(&["drill", "1"])
     };
-    let got = printed_with(rt.alloc(), given)?;
+    let got = printed_with(&rt, rt.alloc(), given)?;
     assert_eq!(rt; got.text.as_str(), "");
     assert_eq!(rt; got.status, Status::Fault);
     assert_eq!(rt; got.said, Some(Complaint::Fault));

@@ -18,6 +18,7 @@ pub fn text_of<H: House>(house: &mut H, name: &str) -> Result<Vec<u8>, Complaint
     ensures gave { Gave (λ text. Holds (H.facts house.old) name.now text.items) RefusesNothing name.now (H.facts house.old) (H.facts house.new) result }
     ensures asked { WasAsked (H.facts house.old) (H.facts house.new) }
     ensures handed { H.handed house.new ≡ H.handed house.old }
+    ensures posted { H.posted house.new ≡ H.posted house.old }
     ensures pipe { H.pipe_of house.new ≡ H.pipe_of house.old }
 {
     match house.file(name) {
@@ -39,6 +40,7 @@ pub fn settings_of<H: House>(
         name.now (H.facts house.old) (H.facts house.new) result }
     ensures asked { WasAsked (H.facts house.old) (H.facts house.new) }
     ensures handed { H.handed house.new ≡ H.handed house.old }
+    ensures posted { H.posted house.new ≡ H.posted house.old }
     ensures pipe { H.pipe_of house.new ≡ H.pipe_of house.old }
 {
     let text = text_of(house, name)?;

@@ -16,6 +16,7 @@ mod house;
 #[cfg(test)]
 mod mem_house;
 mod pipe_command;
+mod posts;
 mod printing;
 mod program;
 mod real;
@@ -23,6 +24,9 @@ mod real;
 mod real_tests;
 mod replay_command;
 mod seats;
+mod serve_command;
+#[cfg(test)]
+mod serve_tests;
 #[cfg(test)]
 mod settings_tests;
 mod status;
@@ -33,7 +37,6 @@ mod talk_tests;
 mod tests;
 #[cfg(test)]
 mod texts;
-mod told;
 
 use crate::complaint::Complaint;
 use crate::errors::Errors;
@@ -47,7 +50,7 @@ use std::process::ExitCode;
 fn main(rt: HostRuntime) -> ExitCode {
     let status = match open(&rt) {
         Ok(Outside { words, mut house }) => {
-            let status = program::run(rt.alloc(), &words, &mut house);
+            let status = program::run(&rt, rt.alloc(), &words, &mut house);
             house.finish(status)
         }
         Err(complaint) => {

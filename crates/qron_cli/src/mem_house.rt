@@ -1,18 +1,27 @@
 // The program over a link in memory, with given bytes, words and faults.
-ghost use Rattle.std.specs.Prelude.{◌≡◌, None, Some, option_map, string_bytes, refl};
+ghost use Rattle.std.specs.Prelude.{◌≡◌, ◌*◌, [], None, Some, length, option_map, unwrap_or, string_bytes, refl, IfOk};
 ghost use Rattle.std.specs.List.{find};
 ghost use Rattle.std.specs.Str.{bytes_eq};
+ghost use Rattle.node_table.specs.Document.{IsInRange};
+ghost use Rattle.qron_cli.specs.Posts.{AreGiven};
 
 use crate::complaint::Complaint;
-use crate::house::{FileRead, House};
+use crate::house::{FileRead, House, Posts};
+use crate::posts::push_post;
 use crate::program::run;
 use crate::status::Status;
+use cqc_server::{Post, Posted};
 use hex::{decode, encode};
 use network_model::Place;
-use qron_link::{ChaChaDice, Dice, Door, Knock, ListDice, MemDoor, MemLink};
+use node_table::Settings;
+use qron_link::{ChaChaDice, CountPatience, Dice, Door, Knock, ListDice, MemDoor, MemLink};
 use std::alloc::{AllocError, Global};
 use std::marker::PhantomData;
+use std::mem;
+use std::snapshot::Snapshot;
+use std::sync::Wait;
 use std::test::Fail;
+use std::thread::Threads;
 
 /// The largest word.
 pub const MOST: u64 = 18_446_744_073_709_551_615;
@@ -65,24 +74,57 @@ impl Rolled for ChaChaDice {
     }
 }
 
-/// A house in memory. It tells its files, and the links of its door.
+// Posts in memory for all workers of a network, each at the next of these doors.
+fn mem_posts<D: Rolled>(
+    alloc: Global,
+    settings: &Settings,
+    words: &Vec<u64>,
+    doors: Vec<MemDoor>,
+) -> Result<Vec<Post<MemDoor, D, CountPatience>>, AllocError>
+    requires range { IsInRange settings.now }
+    requires doors { length doors.items ≡ length settings.now.shape.places * settings.now.workers }
+    ensures { IfOk result (λ posts. AreGiven (⟦<Post<MemDoor, D, CountPatience> as Posted>⟧.watch) (D.key_by words.now.items settings.now.seed) settings.now posts.items) }
+{
+    let mut posts = Vec::new(alloc);
+    for door in doors {
+        let Ok(dice) = D::roll(words, &settings.seed) else {
+            return Err(AllocError);
+        };
+        let Ok(patience) = CountPatience::new(alloc, settings.patience) else {
+            return Err(AllocError);
+        };
+        if push_post(&mut posts, settings, door, dice, patience).is_err() {
+            return Err(AllocError);
+        }
+    }
+    Ok(posts)
+}
+
+/// A house in memory. It tells its files, the posts at its doors, which it hands out once, and the links that it connects.
 #[derive(Drop)]
 struct MemHouse<D: Rolled> {
+    alloc: Global,
     pipe: MemLink,
     words: Vec<u64>,
     files: Vec<MemFile>,
-    door: MemDoor,
+    doors: Vec<MemDoor>,
+    posted: Option<Snapshot<Vec<Post<MemDoor, D, CountPatience>>>>,
+    places: MemDoor,
     faults: u64,
     said: Option<Complaint>,
     dice: PhantomData<D>,
 }
 
-impl<D: Rolled> House for MemHouse<D> {
+impl<D: Rolled + Send> House for MemHouse<D> {
     type Pipe = MemLink;
 
     type Dice = D;
 
     type Link = MemLink;
+
+    type Door = MemDoor;
+
+    type Patience = CountPatience;
 
     ghost pipe_of = { λ h. h.pipe };
 
@@ -95,13 +137,19 @@ impl<D: Rolled> House for MemHouse<D> {
       faults = h.faults;
     } };
 
-    ghost handed = { λ h. Some h.door.handed };
+    ghost handed = { λ h. Some h.places.handed };
+
+    ghost posted = { λ h. Some (unwrap_or (option_map (λ posts. posts.value.items) h.posted) []) };
 
     ghost pipe_is_put = { λ _ _. refl };
 
     ghost facts_stay = { λ _ _. refl };
 
     ghost handed_stay = { λ _ _. refl };
+
+    ghost posted_stay = { λ _ _. refl };
+
+    ghost tells_files = { λ _. tt };
 
     fn pipe(&mut self) -> &mut MemLink {
         &mut self.pipe
@@ -125,8 +173,24 @@ impl<D: Rolled> House for MemHouse<D> {
         }
     }
 
+    fn posts(&mut self, settings: &Settings) -> Posts<MemDoor, D, CountPatience> {
+        let posts = usize::from(settings.shape.nodes()) * usize::from(settings.workers);
+        if self.posted.is_some() || self.doors.len() != posts {
+            self.faults = self.faults.saturating_add(1);
+            return Posts::Failed;
+        }
+        let doors = mem::replace(&mut self.doors, Vec::new(self.alloc));
+        match mem_posts(self.alloc, settings, &self.words, doors) {
+            Ok(posts) => {
+                self.posted = Some(Snapshot::of(&posts));
+                Posts::Ready(posts)
+            }
+            Err(AllocError) => Posts::OutOfMemory,
+        }
+    }
+
     fn connect(&mut self, _place: Place) -> Option<MemLink> {
-        let Knock::Link(link) = self.door.next() else {
+        let Knock::Link(link) = self.places.next() else {
             self.faults = self.faults.saturating_add(1);
             return None;
         };
@@ -138,13 +202,15 @@ impl<D: Rolled> House for MemHouse<D> {
     }
 }
 
-/// What the program is given: its arguments, the names and texts of files, the bytes that links hold, its dice's words,
-/// the most bytes of a read, and the numbers of a read and of a write that fail.
+/// What the program is given: its arguments, the names and texts of files, the bytes that links to places hold, those that
+/// the links of each door hold, its dice's words, the most bytes of a read, and the numbers of a read and of a write that
+/// fail.
 #[derive(Clone, Copy)]
 pub struct Given<'a> {
     pub args: &'a [&'a str],
     pub files: &'a [(&'a str, &'a str)],
     pub links: &'a [&'a [u8]],
+    pub doors: &'a [&'a [&'a [u8]]],
     pub words: [u64; 2],
     pub piece: u32,
     pub bad_read: Option<u32>,
@@ -157,6 +223,7 @@ pub fn faultless(words: [u64; 2], piece: u32) -> Given<'static> {
         args: &["pipe"],
         files: &[],
         links: &[],
+        doors: &[],
         words,
         piece,
         bad_read: None,
@@ -219,6 +286,15 @@ fn mem_links(alloc: Global, inputs: &[&[u8]]) -> Result<Vec<MemLink>, Fail> {
     Ok(links)
 }
 
+// Doors whose links hold these bytes.
+fn mem_doors(alloc: Global, doors: &[&[&[u8]]]) -> Result<Vec<MemDoor>, Fail> {
+    let mut all = Vec::new(alloc);
+    for inputs in doors {
+        all.push(MemDoor::new(mem_links(alloc, inputs)?, Vec::new(alloc)))?;
+    }
+    Ok(all)
+}
+
 // How the program ended, and the house that it was run in.
 #[derive(Drop)]
 struct Run<D: Rolled> {
@@ -227,7 +303,12 @@ struct Run<D: Rolled> {
 }
 
 // Runs the program with this input.
-fn run_with<D: Rolled>(alloc: Global, input: Vec<u8>, given: Given<'_>) -> Result<Run<D>, Fail> {
+fn run_with<D: Rolled + Send, R: Threads + Wait + Sync>(
+    rt: &R,
+    alloc: Global,
+    input: Vec<u8>,
+    given: Given<'_>,
+) -> Result<Run<D>, Fail> {
     let mut bad_reads = Vec::new(alloc);
     if let Some(number) = given.bad_read {
         bad_reads.push(number)?;
@@ -245,10 +326,13 @@ fn run_with<D: Rolled>(alloc: Global, input: Vec<u8>, given: Given<'_>) -> Resul
         bad_writes,
     )?;
     let mut house = MemHouse {
+        alloc,
         pipe,
         words: Vec::from_array(alloc, given.words)?,
         files: mem_files(alloc, given.files)?,
-        door: MemDoor::new(mem_links(alloc, given.links)?, Vec::new(alloc)),
+        doors: mem_doors(alloc, given.doors)?,
+        posted: None,
+        places: MemDoor::new(mem_links(alloc, given.links)?, Vec::new(alloc)),
         faults: 0,
         said: None,
         dice: PhantomData,
@@ -257,13 +341,18 @@ fn run_with<D: Rolled>(alloc: Global, input: Vec<u8>, given: Given<'_>) -> Resul
     for word in given.args {
         words.push(String::from_str(alloc, word)?)?;
     }
-    let status = run(alloc, &words, &mut house);
+    let status = run(rt, alloc, &words, &mut house);
     Ok(Run { status, house })
 }
 
 /// What the program does with this input.
-pub fn answer_with(alloc: Global, input: Vec<u8>, given: Given<'_>) -> Result<Answer, Fail> {
-    let Run { status, house } = run_with::<ListDice>(alloc, input, given)?;
+pub fn answer_with<R: Threads + Wait + Sync>(
+    rt: &R,
+    alloc: Global,
+    input: Vec<u8>,
+    given: Given<'_>,
+) -> Result<Answer, Fail> {
+    let Run { status, house } = run_with::<ListDice, R>(rt, alloc, input, given)?;
     Ok(Answer {
         status,
         said: house.said,
@@ -280,8 +369,12 @@ pub struct Printed {
 }
 
 /// What the program prints without input, with dice by ChaCha20.
-pub fn printed_with(alloc: Global, given: Given<'_>) -> Result<Printed, Fail> {
-    let Run { status, house } = run_with::<ChaChaDice>(alloc, Vec::new(alloc), given)?;
+pub fn printed_with<R: Threads + Wait + Sync>(
+    rt: &R,
+    alloc: Global,
+    given: Given<'_>,
+) -> Result<Printed, Fail> {
+    let Run { status, house } = run_with::<ChaChaDice, R>(rt, alloc, Vec::new(alloc), given)?;
     let text = str::from_utf8(house.pipe.written())?;
     Ok(Printed {
         status,
@@ -305,14 +398,15 @@ pub fn spelled(alloc: Global, pieces: &[(&str, u32)]) -> Result<Vec<u8>, Fail> {
 pub type Case<'a> = (&'a str, [u64; 2], &'a str);
 
 /// The first of these cases that isn't answered as it says, in reads of at most these pieces.
-pub fn first_wrong(
+pub fn first_wrong<R: Threads + Wait + Sync>(
+    rt: &R,
     alloc: Global,
     cases: &[Case<'_>],
     pieces: &[u32],
 ) -> Result<Option<usize>, Fail> {
     for (place, &(input, words, output)) in cases.iter().enumerate() {
         for piece in pieces {
-            let got = answer_with(alloc, decode(alloc, input)?, faultless(words, *piece))?;
+            let got = answer_with(rt, alloc, decode(alloc, input)?, faultless(words, *piece))?;
             if got != done(alloc, &[(output, 1)])? {
                 return Ok(Some(place));
             }

@@ -1,24 +1,22 @@
 // One connection on the pipe, over a core of its own.
 ghost use Rattle.std.specs.Prelude.{◌≡◌, ◌<◌, length, IfOk, [], ◌∷◌};
+ghost use Rattle.cqc_server.specs.Record.{read_limit};
 ghost use Rattle.cqc_session.specs.State.{begun};
 ghost use Rattle.node_table.specs.Document.{IsInRange};
 ghost use Rattle.qron_cli.specs.House.{Allows, ask_file};
-ghost use Rattle.qron_cli.specs.Pipe.{pipe_connection, journal_of, read_limit, PipeServed, PipeRan, PipeWithRan};
+ghost use Rattle.qron_cli.specs.Pipe.{pipe_connection, journal_of, PipeServed, PipeRan, PipeWithRan};
 ghost use Rattle.qron_cli.specs.Statuses.{status_of};
 
 use crate::files::settings_of;
 use crate::house::House;
 use crate::status::{Outcome, outcome_of};
-use crate::told::Told;
+use cqc_server::{READ_LIMIT, Told};
 use cqc_session::{Session, serve_solo};
 use factored_core::Solo;
 use node_table::Settings;
 use qron_link::{Dice, Link};
 use session_model::Ending;
 use std::alloc::{AllocError, Global};
-
-/// The most bytes that are read on a connection.
-pub const READ_LIMIT: u64 = 4_294_967_296;
 
 // A core without entries, dice and a session that has begun, with all the room that they ever take.
 #[derive(Drop)]

@@ -3,21 +3,20 @@ ghost use Rattle.std.specs.Prelude.{◌≡◌, ◌++◌, codes, map, string_byte
 ghost use Rattle.std.specs.Fmt.{decimal};
 ghost use Rattle.cqc_server.specs.InMemory.{shown_end};
 ghost use Rattle.qron_cli.specs.Lines.{word_of, hex_or_dash, end_line, end_lines};
-ghost use Rattle.qron_cli.specs.Seen.{Printed};
+ghost use Rattle.qron_cli.specs.Printed.{Printed};
 ghost use Rattle.qron_cli.specs.Statuses.{status_of};
 
 use crate::complaint::Complaint;
 use crate::house::House;
 use crate::status::Outcome;
-use crate::told::Told;
-use cqc_server::{Actor, Shown};
+use cqc_server::{Actor, Shown, Told};
 use hex::encode;
 use qron_link::{Dice, MemLink, NotSent, send_link};
 use session_model::Ending;
 use std::alloc::{AllocError, Global};
 
-// How an ending is printed.
-fn word_of(ending: &Ending) -> &'static str
+/// How an ending is printed.
+pub(crate) fn word_of(ending: &Ending) -> &'static str
     ensures { result.now ≡ word_of ending.now }
 {
     match ending {
@@ -53,15 +52,15 @@ fn ended_line(
     three_words(alloc, number, word_of(ending), bytes.as_str())
 }
 
-// Adds a number.
-fn push_number(text: &mut String, number: usize) -> Result<(), AllocError>
+/// Adds a number.
+pub(crate) fn push_number(text: &mut String, number: usize) -> Result<(), AllocError>
     ensures { IfOk result (λ _. string_bytes text.new ≡ string_bytes text.old ++ decimal number) }
 {
     write!(text, "{number}")
 }
 
-// Adds a blank and a word.
-fn push_word(text: &mut String, word: &str) -> Result<(), AllocError>
+/// Adds a blank and a word.
+pub(crate) fn push_word(text: &mut String, word: &str) -> Result<(), AllocError>
     ensures { IfOk result (λ _. string_bytes text.new ≡ string_bytes text.old ++ codes " " ++ word.now) }
 {
     text.push(' ')?;
@@ -114,6 +113,7 @@ pub fn end_lines<D: Dice>(alloc: Global, actors: &[Actor<MemLink, D>]) -> Result
 pub fn print<H: House>(house: &mut H, text: &str, done: Outcome) -> Outcome
     ensures printed { Printed text.now (status_of done) (⟦<H::Pipe as Told>⟧.seen (H.pipe_of house.old)) (⟦<H::Pipe as Told>⟧.seen (H.pipe_of house.new)) (status_of result) }
     ensures facts { H.facts house.new ≡ H.facts house.old }
+    ensures posted { H.posted house.new ≡ H.posted house.old }
 {
     match send_link(house.pipe(), text.as_bytes()) {
         Ok(()) => done,

@@ -1,23 +1,31 @@
 // The real outside.
-ghost use Rattle.std.specs.Prelude.{◌≡◌, ◌≤◌, ℕ, None, refl, IfOk, IfSome, vec_len};
+ghost use Rattle.std.specs.Prelude.{◌≡◌, ◌≤◌, ℕ, None, refl, length, IfOk, IfSome, vec_len};
+ghost use Rattle.node_table.specs.Document.{IsInRange};
+ghost use Rattle.qron_cli.specs.Posts.{AreGiven};
 ghost use Rattle.qron_cli.specs.Statuses.{HasFinished};
 
 use crate::complaint::Complaint;
 use crate::errors::Errors;
-use crate::house::{FileRead, House};
+use crate::house::{FileRead, House, Posts};
+use crate::posts::push_post;
 use crate::status::Status;
+use cqc_server::{Post, Posted};
 use network_model::Place;
-use qron_link::{ChaChaDice, Pipe, Reader, TcpLink, Writer};
+use node_table::Settings;
+use qron_link::{ChaChaDice, Pipe, Reader, SleepPatience, TcpDoor, TcpLink, Writer};
 use std::alloc::{AllocError, Global};
 use std::fs;
 use std::io::{self, ErrorKind, Read, Stderr, Stdin, Stdout, Write};
-use std::net::{Net, TcpStream};
+use std::net::{Net, TcpListener, TcpStream};
 use std::rt::Files;
+use std::sync::Wait;
+use virtual_node::Shape;
 
 /// Standard input, output and error, and the files and sockets of the system.
 pub type RealHouse<'a> = PipeHouse<'a, HostRuntime, Stdin, Stdout, Stderr>;
 
-/// A pipe, where complaints go, files and sockets of a system, and dice by ChaCha20. It tells no file, no ask and no link.
+/// A pipe, where complaints go, files and sockets of a system, and dice by ChaCha20. It tells no file, no ask, no post and
+/// no link.
 #[derive(Drop)]
 pub struct PipeHouse<
     'a,
@@ -31,7 +39,7 @@ pub struct PipeHouse<
     pipe: Pipe<R, W>,
     /// Where complaints go.
     pub errors: Errors<E>,
-    // how often a file could not be read, or a place not be reached
+    // how often a file could not be read, or a place not be had or reached
     faults: u64,
 }
 
@@ -60,19 +68,28 @@ impl<'a, S: Files + Net<Stream = TcpStream>, R: Reader, W: Writer, E: Write + Dr
             return status;
         }
         if !matches!(status, Status::Fault) {
-            self.complain(&Complaint::Fault);
+            self.errors.complain(&Complaint::Fault);
         }
         Status::Fault
     }
 }
 
-impl<S: Files + Net<Stream = TcpStream>, R: Reader, W: Writer, E: Write + Drop> House
-    for PipeHouse<'_, S, R, W, E> {
+impl<
+    'a,
+    S: Files + Net<Listener = TcpListener, Stream = TcpStream> + Wait + Sync,
+    R: Reader,
+    W: Writer,
+    E: Write + Drop,
+> House for PipeHouse<'a, S, R, W, E> {
     type Pipe = Pipe<R, W>;
 
     type Dice = ChaChaDice;
 
     type Link = TcpLink;
+
+    type Door = TcpDoor;
+
+    type Patience = SleepPatience<&'a S>;
 
     ghost pipe_of = { λ h. h.pipe };
 
@@ -82,11 +99,17 @@ impl<S: Files + Net<Stream = TcpStream>, R: Reader, W: Writer, E: Write + Drop> 
 
     ghost handed = { λ _. None };
 
+    ghost posted = { λ _. None };
+
     ghost pipe_is_put = { λ _ _. refl };
 
     ghost facts_stay = { λ _ _. refl };
 
     ghost handed_stay = { λ _ _. refl };
+
+    ghost posted_stay = { λ _ _. refl };
+
+    ghost tells_files = { λ _. tt };
 
     fn pipe(&mut self) -> &mut Pipe<R, W> {
         &mut self.pipe
@@ -104,6 +127,21 @@ impl<S: Files + Net<Stream = TcpStream>, R: Reader, W: Writer, E: Write + Drop> 
             Err(_) => {
                 self.faults = self.faults.saturating_add(1);
                 FileRead::Failed
+            }
+        }
+    }
+
+    fn posts(&mut self, settings: &Settings) -> Posts<TcpDoor, ChaChaDice, SleepPatience<&'a S>> {
+        let posts = match doors_at(self.alloc, self.system, &settings.shape, &mut self.errors) {
+            Ok(doors) => posts_at(self.alloc, self.system, settings, doors.as_slice()),
+            Err(error) => Err(error),
+        };
+        match posts {
+            Ok(posts) => Posts::Ready(posts),
+            Err(error) if error.kind() == ErrorKind::OutOfMemory => Posts::OutOfMemory,
+            Err(_) => {
+                self.faults = self.faults.saturating_add(1);
+                Posts::Failed
             }
         }
     }
@@ -135,4 +173,58 @@ fn read_file<F: Files>(alloc: Global, files: &F, name: &str) -> io::Result<Optio
         return Ok(None);
     }
     Ok(Some(bytes))
+}
+
+// Doors at the places of a network, one for each node. A terminal is told of each.
+fn doors_at<N: Net<Listener = TcpListener, Stream = TcpStream>, E: Write + Drop>(
+    alloc: Global,
+    net: &N,
+    shape: &Shape,
+    errors: &mut Errors<E>,
+) -> io::Result<Vec<TcpDoor>>
+    ensures { IfOk result (λ doors. length doors.items ≡ length shape.now.places) }
+{
+    let mut doors = Vec::new(alloc);
+    for node in 0..shape.nodes() {
+        let place = shape.place(node);
+        let door = match TcpDoor::bind(net, place.address, place.port) {
+            Ok(door) => door,
+            Err(error) => {
+                errors.tell_refused(place);
+                return Err(error);
+            }
+        };
+        errors.tell_listening(node, place);
+        if doors.push(door).is_err() {
+            return Err(ErrorKind::OutOfMemory.into());
+        }
+    }
+    Ok(doors)
+}
+
+// Posts for all workers of a network, those of each node at further doors of its own.
+fn posts_at<'a, S: Wait>(
+    alloc: Global,
+    system: &'a S,
+    settings: &Settings,
+    doors: &[TcpDoor],
+) -> io::Result<Vec<Post<TcpDoor, ChaChaDice, SleepPatience<&'a S>>>>
+    requires range { IsInRange settings.now }
+    requires doors { length doors.now ≡ length settings.now.shape.places }
+    ensures { IfOk result (λ posts. AreGiven (⟦<Post<TcpDoor, ChaChaDice, SleepPatience<&'static S>> as Posted>⟧.watch) settings.now.seed settings.now posts.items) }
+{
+    let workers = usize::from(settings.workers);
+    let mut posts = Vec::new(alloc);
+    for seat in 0..doors.len() * workers {
+        let door = match doors[seat / workers].share() {
+            Ok(door) => door,
+            Err(error) => return Err(error),
+        };
+        let dice = ChaChaDice::new(settings.seed);
+        let patience = SleepPatience::new(system, settings.patience, settings.wait_ms);
+        if push_post(&mut posts, settings, door, dice, patience).is_err() {
+            return Err(ErrorKind::OutOfMemory.into());
+        }
+    }
+    Ok(posts)
 }

@@ -1,16 +1,21 @@
 // How the program ends over a pipe that can't send what it gathered, and what a terminal is told.
+ghost use Rattle.node_table.specs.Document.{IsInRange};
+
 use crate::complaint::Complaint;
 use crate::errors::Errors;
+use crate::house::{House, Posts};
 use crate::real::PipeHouse;
 use crate::status::Status;
 use crate::texts::refused_settings;
 use cqc_client::{ScriptFault, ScriptWhy};
 use cqc_server::{ScheduleFault, Why};
-use node_table::{Key, SettingsFault};
-use qron_link::{Pipe, Sink, Source, Writer};
+use network_model::Place;
+use node_table::{Key, Settings, SettingsFault, plain_settings};
+use qron_link::{Pipe, Sink, Source, TcpDoor, Writer};
 use std::alloc::Global;
 use std::io::{self, Cursor, ErrorKind, Write};
 use std::test::Fail;
+use virtual_node::Shape;
 
 // A writer that takes so many bytes, and then fails.
 #[derive(Drop)]
@@ -80,6 +85,53 @@ fn failure_of_the_last_flush_is_a_fault(rt: HostRuntime) -> Result<(), Fail> {
     Ok(())
 }
 
+// Plain settings with one node at this port, and two workers.
+fn settings_at(port: u16) -> Settings
+    ensures { IsInRange result }
+{
+    let place = Place {
+        address: 0x7f00_0001,
+        port,
+    };
+    Settings {
+        shape: Shape::new(&[place], 16, 12),
+        workers: 2,
+        ..plain_settings(1)
+    }
+}
+
+#[test]
+fn workers_of_a_node_share_its_port(rt: HostRuntime) -> Result<(), Fail> {
+    let alloc = rt.alloc();
+    let mut house = PipeHouse::new(alloc, &rt, gathering(alloc, 8)?, quiet(alloc));
+    let Posts::Ready(posts) = house.posts(&settings_at(0)) else {
+        return Err("there is a free port".into());
+    };
+    let [first, second] = posts.as_slice() else {
+        return Err("there are two workers".into());
+    };
+    assert_eq!(rt; first.node, 0);
+    assert_eq!(rt; second.node, 0);
+    assert_eq!(rt; first.door.port()?, second.door.port()?);
+    Ok(())
+}
+
+#[test]
+fn port_that_is_taken_is_a_fault(rt: HostRuntime) -> Result<(), Fail> {
+    let alloc = rt.alloc();
+    let other = TcpDoor::bind(&rt, 0x7f00_0001, 0)?;
+    let port = other.port()?;
+    let errors = Errors {
+        is_terminal: true,
+        ..quiet(alloc)
+    };
+    let mut house = PipeHouse::new(alloc, &rt, gathering(alloc, 8)?, errors);
+    assert!(rt; matches!(house.posts(&settings_at(port)), Posts::Failed));
+    let told = format!(in alloc; "no node can listen at 127.0.0.1 port {port}\n")?;
+    assert_eq!(rt; str::from_utf8(house.errors.out.as_slice())?, told.as_str());
+    Ok(())
+}
+
 #[test]
 fn terminal_is_told_what_was_wrong(rt: HostRuntime) -> Result<(), Fail> {
     let [_, (_, range), _, _] = refused_settings();
@@ -98,7 +150,7 @@ fn terminal_is_told_what_was_wrong(rt: HostRuntime) -> Result<(), Fail> {
     let cases = [
         (
             Complaint::Words,
-            "qron: words\nthe words are: pipe, pipe <settings>, replay <settings> <schedule>, talk <address> <port> <script>, or drill <rounds>\n",
+            "qron: words\nthe words are: pipe, pipe <settings>, replay <settings> <schedule>, serve <settings>, talk <address> <port> <script>, or drill <rounds>\n",
         ),
         (Complaint::Memory, "qron: memory\n"),
         (

@@ -12,8 +12,7 @@ use crate::house::House;
 use crate::printing::{end_lines, print};
 use crate::seats::play;
 use crate::status::Outcome;
-use crate::told::Told;
-use cqc_server::Schedule;
+use cqc_server::{Schedule, Told};
 use node_table::Settings;
 use std::alloc::Global;
 

@@ -11,9 +11,8 @@ ghost use Rattle.qron_cli.specs.Lines.{is_faulty, is_unfinished, outcome_of_all}
 
 use crate::complaint::Complaint;
 use crate::house::House;
-use crate::pipe_command::READ_LIMIT;
 use crate::status::{Outcome, Work};
-use cqc_server::{Actor, Planned, Schedule, Shown, replay_in_memory};
+use cqc_server::{Actor, Planned, READ_LIMIT, Schedule, Shown, replay_in_memory};
 use cqc_session::Session;
 use factored_core::Solo;
 use node_table::Settings;
@@ -131,15 +130,15 @@ fn any_unfinished<D: Dice>(actors: &[Actor<MemLink, D>]) -> bool
     actors.iter().any(|actor| is_unfinished(&actor.ending))
 }
 
-// Whether a link failed.
-fn is_faulty(ending: &Option<Ending>) -> bool
+/// Whether a link failed.
+pub(crate) fn is_faulty(ending: &Option<Ending>) -> bool
     ensures { result ≡ is_faulty ending.now }
 {
     matches!(ending, Some(Ending::ReadFault | Ending::WriteFault))
 }
 
-// Whether an input was cut, the journal was full, or the most bytes were read.
-fn is_unfinished(ending: &Option<Ending>) -> bool
+/// Whether an input was cut, the journal was full, or the most bytes were read.
+pub(crate) fn is_unfinished(ending: &Option<Ending>) -> bool
     ensures { result ≡ is_unfinished ending.now }
 {
     matches!(

@@ -17,7 +17,7 @@ fn settings_are_taken(rt: HostRuntime) -> Result<(), Fail> {
         files: &[("settings", TWO)],
         ..faultless([0, 0], 7)
     };
-    let got = answer_with(alloc, decode(alloc, "0200000700000000")?, given)?;
+    let got = answer_with(&rt, alloc, decode(alloc, "0200000700000000")?, given)?;
     assert_eq!(rt; got.status, Status::Done);
     assert_eq!(rt; got.output.as_str(), "0200000700000000");
     Ok(())
@@ -32,7 +32,7 @@ fn settings_are_refused_before_anything_is_done(rt: HostRuntime) -> Result<(), F
             files: &[("settings", text)],
             ..faultless([0, 0], 7)
         };
-        let got = printed_with(rt.alloc(), given)?;
+        let got = printed_with(&rt, rt.alloc(), given)?;
         assert_eq!(rt; got.status, Status::Refused);
         assert_eq!(rt; got.said, Some(Complaint::Settings(why)));
         assert_eq!(rt; got.text.as_str(), "");
@@ -46,7 +46,7 @@ fn file_that_is_not_there_is_a_fault(rt: HostRuntime) -> Result<(), Fail> {
         args: PIPE,
         ..faultless([0, 0], 7)
     };
-    let got = printed_with(rt.alloc(), given)?;
+    let got = printed_with(&rt, rt.alloc(), given)?;
     assert_eq!(rt; got.status, Status::Fault);
     assert_eq!(rt; got.said, Some(Complaint::Fault));
     assert_eq!(rt; got.text.as_str(), "");

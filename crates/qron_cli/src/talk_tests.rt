@@ -39,7 +39,7 @@ fn replies_are_printed_and_decide_the_status(rt: HostRuntime) -> Result<(), Fail
             links: &[link],
             ..faultless([0, 0], 7)
         };
-        let got = answer_with(alloc, Vec::new(alloc), given)?;
+        let got = answer_with(&rt, alloc, Vec::new(alloc), given)?;
         assert_eq!(rt;
             got,
             Answer {
@@ -65,7 +65,7 @@ fn refused_script_is_complained_of(rt: HostRuntime) -> Result<(), Fail> {
             files: &[("script", script)],
             ..faultless([0, 0], 7)
         };
-        let got = answer_with(alloc, Vec::new(alloc), given)?;
+        let got = answer_with(&rt, alloc, Vec::new(alloc), given)?;
         assert_eq!(rt; got.status, Status::Refused);
         assert_eq!(rt;
             got.said,
@@ -84,7 +84,7 @@ fn place_that_is_not_reached_is_a_fault(rt: HostRuntime) -> Result<(), Fail> {
         files: &[("script", SCRIPT)],
         ..faultless([0, 0], 7)
     };
-    let got = answer_with(alloc, Vec::new(alloc), given)?;
+    let got = answer_with(&rt, alloc, Vec::new(alloc), given)?;
     assert_eq!(rt; got.status, Status::Fault);
     assert_eq!(rt; got.said, Some(Complaint::Fault));
     assert_eq!(rt; got.output.as_str(), "");

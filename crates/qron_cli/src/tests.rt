@@ -64,7 +64,10 @@ fn hello_and_commands_are_answered(rt: HostRuntime) -> Result<(), Fail> {
         // no command
         ("0201000000000000", [0, 0], ""),
     ];
-    assert_eq!(rt; first_wrong(rt.alloc(), &cases, &[1, 2, 7, 65_536])?, None);
+    assert_eq!(rt;
+        first_wrong(&rt, rt.alloc(), &cases, &[1, 2, 7, 65_536])?,
+        None
+    );
     Ok(())
 }
 
@@ -121,7 +124,7 @@ fn every_instruction_on_one_qubit_is_answered(rt: HostRuntime) -> Result<(), Fai
             "020a0000000000020000020700000000000100020a0000000000020000",
         ),
     ];
-    assert_eq!(rt; first_wrong(rt.alloc(), &cases, &[7])?, None);
+    assert_eq!(rt; first_wrong(&rt, rt.alloc(), &cases, &[7])?, None);
     Ok(())
 }
 
@@ -148,7 +151,7 @@ fn refused_messages_have_one_error(rt: HostRuntime) -> Result<(), Fail> {
         ),
         ("020100000000000400000102", [0, 0], "0216000000000000"),
     ];
-    assert_eq!(rt; first_wrong(rt.alloc(), &cases, &[1, 7])?, None);
+    assert_eq!(rt; first_wrong(&rt, rt.alloc(), &cases, &[1, 7])?, None);
     Ok(())
 }
 
@@ -162,7 +165,7 @@ fn cut_input_ends_with_a_status(rt: HostRuntime) -> Result<(), Fail> {
     ];
     for (input, output) in cases {
         let alloc = rt.alloc();
-        let got = answer_with(alloc, decode(alloc, input)?, faultless([0, 0], 2))?;
+        let got = answer_with(&rt, alloc, decode(alloc, input)?, faultless([0, 0], 2))?;
         assert_eq!(rt; got, ended(alloc, Status::Unfinished, output)?, "{input}");
     }
     Ok(())
@@ -183,7 +186,12 @@ fn faults_are_told(rt: HostRuntime) -> Result<(), Fail> {
             bad_write,
             ..faultless([0, 0], 7)
         };
-        let got = answer_with(alloc, decode(alloc, "020100000000000400000101")?, given)?;
+        let got = answer_with(
+            &rt,
+            alloc,
+            decode(alloc, "020100000000000400000101")?,
+            given,
+        )?;
         assert_eq!(rt; got, ended(alloc, Status::Fault, output)?);
     }
     Ok(())
@@ -205,7 +213,7 @@ fn other_words_are_refused(rt: HostRuntime) -> Result<(), Fail> {
             args,
             ..faultless([0, 0], 7)
         };
-        let got = answer_with(alloc, decode(alloc, "0200000700000000")?, given)?;
+        let got = answer_with(&rt, alloc, decode(alloc, "0200000700000000")?, given)?;
         assert_eq!(rt; got, ended(alloc, Status::Words, "")?);
     }
     Ok(())
@@ -224,7 +232,7 @@ fn long_body_is_passed_over(rt: HostRuntime) -> Result<(), Fail> {
         ],
     )?;
     assert_eq!(rt;
-        answer_with(alloc, input, faultless([0, 0], 4096))?,
+        answer_with(&rt, alloc, input, faultless([0, 0], 4096))?,
         done(alloc, &[("02140000000000000200000700000000", 1)])?
     );
     Ok(())

@@ -17,6 +17,20 @@ address = \"127.0.0.1\"
 port = 8822
 ";
 
+/// Settings of two nodes, with one worker each.
+pub const ONE_EACH: &str =
+    "seed = \"0000000000000000000000000000000000000000000000000000000000000000\"
+workers = 1
+
+[[node]]
+address = \"127.0.0.1\"
+port = 8821
+
+[[node]]
+address = \"127.0.0.1\"
+port = 8822
+";
+
 // Without a seed.
 const SEEDLESS: &str = "[[node]]
 address = \"127.0.0.1\"

@@ -1,5 +1,5 @@
 -- What is made of a call on a board. The main results are `empty_queue`, `filled_queue` and `made`.
-use Rattle.std.proofs.Common.{ℕ, ◌≡◌, ◌≢◌, List, [], Option, None, Some, refl, sym, ap, subst, ◌∙◌}
+use Rattle.std.proofs.Common.{ℕ, ◌≡◌, ◌≢◌, [], Option, Some, sym, ap, subst, ◌∙◌}
 use Rattle.network_model.specs.Network.{Shape}
 use Rattle.network_model.specs.declared.Call.{Call}
 use Rattle.network_model.specs.declared.Entry.{Entry}

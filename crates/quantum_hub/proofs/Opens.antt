@@ -1,5 +1,5 @@
 -- What a hub begins with.
-use Rattle.std.proofs.Common.{ℕ, zero, suc, ◌≡◌, ◌+◌, ◌-◌, ◌<◌, ◌≤◌, List, [], ◌∷◌, ◌++◌, length, None, Some, slice_get, refl, sym, ap, subst, ◌∙◌, arith}
+use Rattle.std.proofs.Common.{ℕ, zero, suc, ◌≡◌, ◌+◌, ◌-◌, ◌<◌, ◌≤◌, List, [], ◌∷◌, ◌++◌, length, None, Some, slice_get, sym, ap, subst, ◌∙◌, arith}
 use Rattle.network_model.specs.Network.{Shape, opening}
 use Rattle.network_model.specs.History.{after}
 use Rattle.network_model.specs.Factored.{FitsNode, FitsPool, FitsSlot, homes_after, homes_from}

@@ -1,14 +1,12 @@
 -- What a look at a node finds, as the network's state has it. The main results are `nothing_waits` and `something_waits`.
-use Rattle.std.proofs.Common.{ℕ, ◌≡◌, ◌≢◌, ◌+◌, ◌<◌, nat_lt, not, Bool, true, false, cond, List, [], ◌∷◌, length, map, filter, Option, None, Some, refl, sym, ap, ◌∙◌, arith}
+use Rattle.std.proofs.Common.{ℕ, ◌≡◌, ◌≢◌, ◌+◌, nat_lt, not, Bool, true, false, cond, List, [], ◌∷◌, length, map, filter, None, Some, refl, sym, ap, ◌∙◌, arith}
 use Rattle.std.specs.Prelude.{position}
 use Rattle.std.specs.List.{position_or_len}
-use Rattle.cqc_model.specs.declared.PairInfo.{PairInfo}
 use Rattle.network_model.specs.Network.{Network, Waiting, queue}
 use Rattle.network_model.specs.Factored.{FitsNode}
 use Rattle.network_model.specs.declared.Line.{Line}
 use Rattle.virtual_node.specs.Node.{Node, is_waiting, look_of, told_of, held_map, arrived_map}
-use Rattle.virtual_node.specs.declared.arrival.Arrival.{Arrival}
-use Rattle.virtual_node.specs.declared.arrival.Look.TheVariants.{Here, Empty}
+use Rattle.virtual_node.specs.declared.arrival.Look.TheVariants.{Empty}
 
 -- ---- whether one passes a test, by its place
 -- whether a list has an element

@@ -1,5 +1,5 @@
 -- TIMEOUT comes only where a call receives and its queue is empty. The main result is `finds_nothing`.
-use Rattle.std.proofs.Common.{ℕ, ◌≡◌, ◌==◌, Bool, true, false, cond, List, [], ◌∷◌, length, Option, None, Some, refl, sym, ap, ◌∙◌, arith}
+use Rattle.std.proofs.Common.{ℕ, ◌≡◌, ◌==◌, Bool, true, false, List, [], ◌∷◌, length, Option, None, Some, refl, sym, ap, ◌∙◌, arith}
 use Rattle.state_model.proofs.Booleans.{eq_of}
 use Rattle.network_model.specs.Network.{Network, Shape, queue, Waiting}
 use Rattle.network_model.specs.Kinds.{kind_of, line_of}
@@ -14,7 +14,7 @@ use Rattle.network_model.specs.declared.CoreReply.TheVariants as reply
 use Rattle.cqc_model.specs.declared.Fault.{Fault}
 use Rattle.cqc_model.specs.declared.Fault.TheVariants.{General, NoQubit, Unsupported, Timeout, Unknown}
 use Rattle.cqc_model.specs.declared.PairInfo.{PairInfo}
-use Rattle.quantum_hub.specs.Waiting.{received_line, FindsNothing}
+use Rattle.quantum_hub.specs.Waiting.{FindsNothing}
 
 -- ---- a refusal by TIMEOUT
 -- a line with another fault isn't the one

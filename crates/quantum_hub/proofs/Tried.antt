@@ -1,9 +1,9 @@
 -- How a try ends, from what was made of the call on the board. The main results are `executed`, `no_timeout` and `found_nothing`.
-use Rattle.std.proofs.Common.{ℕ, ◌≡◌, ◌≢◌, ◌≤◌, ◌+◌, List, [], Option, None, Some, IsSome, unwrap_or, Result, Err, length, refl, sym, ap, subst, ◌∙◌}
+use Rattle.std.proofs.Common.{ℕ, ◌≡◌, ◌≢◌, List, [], Option, None, Some, IsSome, unwrap_or, Result, Err, length, refl, sym, ap, subst, ◌∙◌}
 use Rattle.state_model.proofs.Booleans.{clash}
 use Rattle.cqc_model.specs.declared.Fault.TheVariants.{Timeout}
 use Rattle.network_model.specs.Network.{Shape, queue}
-use Rattle.network_model.specs.History.{IsLegal, after}
+use Rattle.network_model.specs.History.{after}
 use Rattle.network_model.specs.Factored.{homes_after}
 use Rattle.network_model.specs.declared.Call.{Call}
 use Rattle.network_model.specs.declared.CoreReply.TheVariants.{Error}
@@ -15,7 +15,7 @@ use Rattle.core_cells.specs.Cells.{Cells, CellsFit}
 use Rattle.commit_journal.specs.Keeping.{own_count}
 use Rattle.commit_journal.specs.Views.{Worker, HasAdded}
 use Rattle.quantum_hub.specs.Calls.{HasCalled, HasWaited, IsDrawn, IsExecuted}
-use Rattle.quantum_hub.specs.Waiting.{received_line, FindsNothing}
+use Rattle.quantum_hub.specs.Waiting.{FindsNothing}
 use Rattle.commit_journal.specs.declared.fault.CommitFault.{CommitFault}
 use Rattle.commit_journal.specs.declared.fault.CommitFault.TheVariants.{Full as JournalIsFull, Stale}
 use Rattle.quantum_hub.specs.Tries.{MayAwait, FitsTried, tried_of}

@@ -1,5 +1,5 @@
 -- Turns and answers behind waits. The main results are `turn_along`, `answer_along`, `answer_begins` and `answer_finds`.
-use Rattle.std.proofs.Common.{ℕ, ◌≡◌, ◌≢◌, ◌-◌, List, [], length, take, Option, None, Some, IsSome, Result, Ok, Err, refl, sym, ap, subst, ◌∙◌}
+use Rattle.std.proofs.Common.{ℕ, ◌≡◌, ◌-◌, List, length, take, Option, Some, Result, Ok, Err, sym, subst}
 use Rattle.std.specs.Prelude.{MatchOption}
 use Rattle.cqc_model.specs.declared.Fault.TheVariants.{Timeout}
 use Rattle.network_model.specs.Network.{Shape}
@@ -10,9 +10,9 @@ use Rattle.network_model.specs.declared.CoreReply.TheVariants.{Error}
 use Rattle.network_model.specs.declared.JournalFull.{JournalFull}
 use Rattle.network_model.specs.declared.Line.{Line}
 use Rattle.commit_journal.specs.Views.{Worker}
-use Rattle.quantum_hub.specs.Calls.{HasWaited, IsExecuted, FoundFull, IsAnswer}
+use Rattle.quantum_hub.specs.Calls.{HasWaited, IsAnswer}
 use Rattle.quantum_hub.specs.Waiting.{FindsNothing}
-use Rattle.quantum_hub.specs.Tries.{FitsTurn, FoundEmpty}
+use Rattle.quantum_hub.specs.Tries.{FitsTurn}
 use Rattle.quantum_hub.specs.declared.tries.Turn.{Turn}
 use Rattle.quantum_hub.specs.declared.tries.Turn.TheVariants.{Done, Full, Empty}
 use Rattle.quantum_hub.proofs.Waits.{waited_twice, executed_waited, full_waited, answered_waited}

@@ -1,6 +1,6 @@
 -- What a pass has seen behind a look and behind a commit.
 use Rattle.std.proofs.Common.{◌≡◌, ℕ, ◌+◌, List, [], ◌∷◌, ◌++◌, ◌≤◌, Result, Ok, Err, Option, None, Some, sym, ap, ◌∙◌, arith, append_assoc}
-use Rattle.std.specs.Prelude.{OnOk, OnErr, MatchOption, MatchResult}
+use Rattle.std.specs.Prelude.{OnOk, OnErr}
 use Rattle.std.proofs.lemmas.List.{append-nil}
 use Rattle.network_model.specs.Network.{Shape}
 use Rattle.network_model.specs.declared.Call.{Call}

@@ -1,5 +1,5 @@
 -- Calls that receive: what patience was shown, and when TIMEOUT comes.
-use Rattle.std.specs.Prelude.{ℕ, ◌≡◌, ◌≢◌, ◌-◌, ◌≤◌, List, [], take, length, All, Option, Some, IfSome, MatchOption}
+use Rattle.std.specs.Prelude.{ℕ, ◌≡◌, ◌≢◌, ◌-◌, ◌≤◌, List, [], take, length, All, Option, Some, IfSome}
 use Rattle.network_model.specs.Network.{Network, Shape, queue, line_eq}
 use Rattle.network_model.specs.History.{after}
 use Rattle.network_model.specs.Kinds.{kind_of, line_of}

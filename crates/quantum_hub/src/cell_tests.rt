@@ -4,7 +4,7 @@ ghost use Rattle.std.specs.Prelude.{◌≡◌};
 use crate::hub::Hub;
 use crate::site::{Asked, Seat, Site, eight_nodes, plain, remote, two_nodes};
 use crate::stories::{Story, on_eight_nodes, on_two_nodes};
-use commit_journal::Framed;
+use commit_journal::{Framed, Pass};
 use cqc_model::{Instr, PairInfo};
 use history_front::Named;
 use hub_cells::Cell;
@@ -13,8 +13,13 @@ use qron_link::CountPatience;
 use std::alloc::Global;
 use std::process::Abort;
 use std::sync::Wait;
+use std::sync::atomic::AtomicU64;
 use std::sync::atomic::Ordering::SeqCst;
 use std::test::*;
+use std::thread::{Threads, join, yield_now};
+
+// How often a thread looks whether its turn has come.
+const TURNS: u32 = 1_000_000;
 
 // The largest word.
 const MOST: u64 = 18_446_744_073_709_551_615;
@@ -47,34 +52,81 @@ fn most(case: Case) -> Case {
     }
 }
 
-// Two seats ask in turn. Each reply is the one that is given, and a core on one thread gives the same.
-fn tell<N: Named + Framed, R: Wait + Abort>(
+// What two threads tell each other: how many of the cases are answered.
+#[derive(Drop)]
+struct Turns {
+    answered: AtomicU64,
+}
+
+impl Turns {
+    // Whether so many cases were answered before this one has looked so often.
+    fn reach(&self, place: u64) -> bool {
+        for _ in 0..TURNS {
+            if self.answered.load(SeqCst) == place {
+                return true;
+            }
+            yield_now();
+        }
+        false
+    }
+}
+
+// Asks the cases of a seat, each once all before it are answered. The seat's pass, where each reply is the one that is
+// given.
+fn play<N: Named + Framed, R: Wait>(
+    rt: &R,
+    alloc: Global,
+    hub: &Hub<N>,
+    mut seat: Seat<N>,
+    cases: &[Case],
+    turns: &Turns,
+) -> Option<Pass<N>> {
+    let number = seat.pass.seat();
+    for (place, case) in cases.iter().enumerate() {
+        if u16::from(case.seat) != number {
+            continue;
+        }
+        let place = place as u64;
+        if !turns.reach(place) || seat.ask(rt, alloc, hub, case.asked)? != case.reply {
+            return None;
+        }
+        turns.answered.store(place.wrapping_add(1), SeqCst);
+    }
+    Some(seat.pass)
+}
+
+// Two seats, each in a thread of its own, ask in turn. Each reply is the one that is given, and a core on one thread
+// gives the same.
+fn tell<N: Named + Framed + Send + Sync, R: Threads + Wait + Abort + Sync>(
     rt: &R,
     alloc: Global,
     mut site: Site<N>,
     cases: &[Case],
 ) -> Result<(), Fail> {
-    let mut other = site.seat()?;
-    let mut first = site.seat()?;
-    for case in cases {
-        let reply = if case.seat == 0 {
-            first.ask(rt, alloc, &site.hub, case.asked)
-        } else {
-            other.ask(rt, alloc, &site.hub, case.asked)
-        };
-        assert_eq!(rt; reply, Some(case.reply));
-    }
+    let other = site.seat()?;
+    let first = site.seat()?;
+    let hub = &site.hub;
+    let turns = Turns {
+        answered: AtomicU64::new(0),
+    };
+    let (first, other) = join(
+        rt,
+        || play(rt, alloc, hub, first, cases, &turns),
+        || play(rt, alloc, hub, other, cases, &turns),
+    );
+    let first = first.ok_or("each reply of seat 0 is the one that is given")?;
+    let other = other.ok_or("each reply of seat 1 is the one that is given")?;
     site.close(
         rt,
         alloc,
-        vec![in alloc; first.pass, other.pass]?,
+        vec![in alloc; first, other]?,
         two_nodes(16, 12),
         cases.len(),
     )
 }
 
 /// A qubit that was sent away is entangled there, and each of both is found where it is.
-pub(crate) fn forwards<N: Named + Framed, R: Wait + Abort>(
+pub(crate) fn forwards<N: Named + Framed + Send + Sync, R: Threads + Wait + Abort + Sync>(
     rt: &R,
     alloc: Global,
     site: Site<N>,
@@ -101,24 +153,68 @@ fn forwarding(rt: HostRuntime) -> Result<(), Fail> {
     on_two_nodes(&rt, rt.alloc(), Story::Forwarding, 64)
 }
 
-/// A pair agrees, and teleports a qubit.
-pub(crate) fn makes_pairs<N: Named + Framed, R: Wait + Abort>(
-    rt: &R,
-    alloc: Global,
-    site: Site<N>,
-) -> Result<(), Fail> {
-    let place = remote(0);
+// The pair that node 0 makes with node 1, by its number.
+fn pair_of(number: u32) -> PairInfo {
+    let one = remote(0);
     let other = remote(1);
-    let pair = PairInfo {
-        node_a: place.node,
-        port_a: place.port,
+    PairInfo {
+        node_a: one.node,
+        port_a: one.port,
         app_a: 0,
         node_b: other.node,
         port_b: other.port,
         app_b: 0,
-        pair: 0,
+        pair: number,
+    }
+}
+
+/// A half of a pair is turned at its node, before or behind a gate of the other half with a further qubit: the outcomes
+/// are the same.
+pub(crate) fn turns_a_half<N: Named + Framed + Send + Sync, R: Threads + Wait + Abort + Sync>(
+    rt: &R,
+    alloc: Global,
+    site: Site<N>,
+    first: bool,
+) -> Result<(), Fail> {
+    let half = CoreReply::Pair(0, pair_of(0));
+    let turned = answered(1, 0, Instr::X, CoreReply::Silent);
+    let joined = answered(0, 1, Instr::Cnot(0), CoreReply::Silent);
+    let (before, behind) = if first {
+        (turned, joined)
+    } else {
+        (joined, turned)
     };
-    let next = PairInfo { pair: 1, ..pair };
+    let cases = [
+        answered(0, 0, Instr::Epr(remote(1)), half),
+        answered(0, 0, Instr::New, CoreReply::New(1)),
+        answered(1, 0, Instr::EprRecv, half),
+        before,
+        behind,
+        answered(0, 0, Instr::Measure, CoreReply::Outcome(true)),
+        answered(1, 0, Instr::Measure, CoreReply::Outcome(false)),
+    ];
+    tell(rt, alloc, site, &cases)
+}
+
+#[test]
+fn a_half_is_turned_before_a_gate(rt: HostRuntime) -> Result<(), Fail> {
+    on_two_nodes(&rt, rt.alloc(), Story::TurnedBefore, 64)
+}
+
+#[test]
+fn a_half_is_turned_behind_a_gate(rt: HostRuntime) -> Result<(), Fail> {
+    on_two_nodes(&rt, rt.alloc(), Story::TurnedBehind, 64)
+}
+
+/// A pair agrees, and teleports a qubit.
+pub(crate) fn makes_pairs<N: Named + Framed + Send + Sync, R: Threads + Wait + Abort + Sync>(
+    rt: &R,
+    alloc: Global,
+    site: Site<N>,
+) -> Result<(), Fail> {
+    let other = remote(1);
+    let pair = pair_of(0);
+    let next = pair_of(1);
     let cases = [
         answered(0, 0, Instr::Epr(other), CoreReply::Pair(0, pair)),
         answered(1, 0, Instr::EprRecv, CoreReply::Pair(0, pair)),

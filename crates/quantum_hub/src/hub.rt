@@ -77,14 +77,15 @@ impl<N: Named + Framed> Hub<N> {
         Ok(Opened { hub, passes })
     }
 
-    /// The entries, once all calls have been made and all passes are back, in order of seat. They are legal; what each
-    /// pass has seen is a prefix of them, and they have just as many of its seat as it made. Where a pass's number isn't
-    /// the journal's, which can't be shown never to be, it waits for ever.
+    /// The entries, once all calls have been made and all passes are back, in order of seat. They are legal, and no more
+    /// than there was room for; what each pass has seen is a prefix of them, and they have just as many of its seat as it
+    /// made. Where a pass's number isn't the journal's, which can't be shown never to be, it waits for ever.
     pub fn close(self, rt: &impl Wait, passes: Vec<Pass<N>>) -> Closed
         requires seats { vec_len passes ≡ N.seats }
         requires order { (k : ℕ) (pass : Worker) → slice_get passes.items k ≡ Some pass → pass.seat ≡ k }
         ensures legal { IsLegal N.shape result.entries.items }
         ensures made { HaveMade passes.items result.entries.items }
+        ensures most { vec_len result.entries ≤ N.capacity }
     {
         let Hub {
             shape: _,

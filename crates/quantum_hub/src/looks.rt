@@ -54,6 +54,7 @@ pub(crate) fn end<N: Named + Framed>(
 {
     let mut desk = journal.lock(rt);
     let committed = commit(&mut *desk, hold, pass, entry);
+    // contracts see by this call that the number is that of its entries
     let _made = pass.made();
     match committed {
         Ok(_) => Ok(()),

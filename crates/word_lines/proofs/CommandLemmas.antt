@@ -1,4 +1,4 @@
--- What clap makes of the four commands before there is a word.
+-- What clap makes of the five commands before there is a word.
 use Rattle.std.proofs.Common.{◌≡◌, true, [], ◌∷◌, refl}
 use Rattle.std.proofs.lemmas.Bool.{and_parts}
 use Rattle.clap.specs.Faults.{fault_of, is_simple_and_free}

@@ -37,10 +37,10 @@ drilled (Some n) = refl
 -- words that clap takes ask for what it finds in them
 pub drill_taken : (words : List Text) → list_any is_dashed words ≡ false → fault_of drill_app words ≡ [] → drill_found (first_of (codes "rounds") (matches_of drill_app words)) ≡ drill_line words
 drill_taken [] plain passed = let no : kind.MissingRequiredArgument ∷ [] ≡ [] = sym (no_words mode.Drill) ∙ passed in cc
-drill_taken (word ∷ []) plain passed = ap drill_found (one_text word (or_parts _ _ plain).0).1 ∙ drilled (number_between 1 100_000 word)
+drill_taken (word ∷ []) plain passed = ap drill_found (one_text word (or_parts _ _ plain).0).2 ∙ drilled (number_between 1 100_000 word)
 drill_taken (first ∷ second ∷ others) plain passed =
     let (p, later) = or_parts _ _ plain in
-    let no : kind.UnknownArgument ∷ [] ≡ [] = sym (more_words first second others p (or_parts _ _ later).0).1 ∙ passed in
+    let no : kind.UnknownArgument ∷ [] ≡ [] = sym (more_words first second others p (or_parts _ _ later).0).2 ∙ passed in
     cc
 
 -- words that it refuses ask for nothing

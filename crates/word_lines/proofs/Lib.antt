@@ -5,6 +5,7 @@ pub mod FoundLemmas
 pub mod CommandLemmas
 pub mod PipeLemmas
 pub mod ReplayLemmas
+pub mod ServeLemmas
 pub mod TalkLemmas
 pub mod DrillLemmas
 pub mod ModeLemmas

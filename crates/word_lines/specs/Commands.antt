@@ -36,6 +36,10 @@ pipe_app = with_rule (bare_app (codes "pipe")) (text_rule false (codes "settings
 abbrev pub replay_app : App
 replay_app = with_rule (with_rule (bare_app (codes "replay")) (text_rule true (codes "settings"))) (text_rule true (codes "schedule"))
 
+-- serve <settings>
+abbrev pub serve_app : App
+serve_app = with_rule (bare_app (codes "serve")) (text_rule true (codes "settings"))
+
 -- talk <address> <port> <script>
 abbrev pub talk_app : App
 talk_app =
@@ -49,6 +53,7 @@ drill_app = with_rule (bare_app (codes "drill")) (number_rule (codes "rounds") 1
 abbrev pub app_for : Mode → App
 app_for mode.Pipe = pipe_app
 app_for mode.Replay = replay_app
+app_for mode.Serve = serve_app
 app_for mode.Talk = talk_app
 app_for mode.Drill = drill_app
 

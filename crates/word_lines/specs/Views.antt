@@ -5,13 +5,14 @@ use Rattle.word_lines.specs.declared.asked.Asked.{Asked}
 use Rattle.word_lines.specs.declared.asked.Asked.TheVariants as asked
 use Rattle.word_lines.specs.declared.asked.Mode.{Mode}
 use Rattle.word_lines.specs.declared.asked.Mode.TheVariants as mode
-use Rattle.word_lines.specs.Lines.{Line, pipe, pipe_with, replay, talk, drill}
+use Rattle.word_lines.specs.Lines.{Line, pipe, pipe_with, replay, serve, talk, drill}
 
 -- what is asked for
 abbrev pub asked_line : Asked → Line
 asked_line asked.Pipe = pipe
 asked_line (asked.PipeWith settings) = pipe_with settings.now
 asked_line (asked.Replay settings schedule) = replay settings.now schedule.now
+asked_line (asked.Serve settings) = serve settings.now
 asked_line (asked.Talk place script) = talk place script.now
 asked_line (asked.Drill rounds) = drill rounds
 
@@ -27,6 +28,12 @@ replay_found settings schedule = do
   first ← settings
   second ← schedule
   Some (replay first second)
+
+-- the settings
+abbrev pub serve_found : Option (List ℕ) → Option Line
+serve_found settings = do
+  first ← settings
+  Some (serve first)
 
 -- the address, the port and the script
 abbrev pub talk_found : Option (List ℕ) → Option (List ℕ) → Option (List ℕ) → Option Line
@@ -49,5 +56,6 @@ drill_found rounds = do
 abbrev pub line_found : Mode → (List ℕ → Option (List ℕ)) → Option Line
 line_found mode.Pipe text = Some (pipe_found (text (codes "settings")))
 line_found mode.Replay text = replay_found (text (codes "settings")) (text (codes "schedule"))
+line_found mode.Serve text = serve_found (text (codes "settings"))
 line_found mode.Talk text = talk_found (text (codes "address")) (text (codes "port")) (text (codes "script"))
 line_found mode.Drill text = drill_found (text (codes "rounds"))

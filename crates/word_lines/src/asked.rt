@@ -6,6 +6,7 @@ use network_model::Place;
 pub(crate) enum Mode {
     Pipe,
     Replay,
+    Serve,
     Talk,
     Drill,
 }
@@ -23,6 +24,10 @@ pub enum Asked<'a> {
     Replay {
         settings: &'a str,
         schedule: &'a str,
+    },
+    /// The nodes of a network with the settings of a file, on their ports.
+    Serve {
+        settings: &'a str,
     },
     /// A client that sends the messages of a script to a place.
     Talk {

@@ -48,6 +48,7 @@ pub(crate) fn command_of<'a>(alloc: Global, mode: Mode) -> Result<Command<'a>, A
         Mode::Replay => bare_command(alloc, "replay")
             .arg(text_argument(alloc, "settings", true))?
             .arg(text_argument(alloc, "schedule", true)),
+        Mode::Serve => bare_command(alloc, "serve").arg(text_argument(alloc, "settings", true)),
         Mode::Talk => bare_command(alloc, "talk")
             .arg(text_argument(alloc, "address", true))?
             .arg(number_argument(alloc, "port", 65_535))?

@@ -3,7 +3,7 @@ ghost use Rattle.std.specs.Prelude.{◌≡◌, false, Some, map, option_map, str
 ghost use Rattle.std.specs.List.{list_any};
 ghost use Rattle.clap.specs.Matches.{first_value, found_of};
 ghost use Rattle.word_lines.specs.Lines.{is_dashed, line_for, line_of};
-ghost use Rattle.word_lines.specs.Views.{asked_line, pipe_found, replay_found, talk_found, drill_found, line_found};
+ghost use Rattle.word_lines.specs.Views.{asked_line, pipe_found, replay_found, serve_found, talk_found, drill_found, line_found};
 
 use crate::asked::{Asked, Mode};
 use crate::command::{command_of, found_in};
@@ -45,6 +45,14 @@ fn replay_asked<'a>(settings: Option<&'a str>, schedule: Option<&'a str>) -> Opt
     Some(Asked::Replay { settings, schedule })
 }
 
+// The serving of a network with these settings.
+fn serve_asked(settings: Option<&str>) -> Option<Asked<'_>>
+    ensures { option_map asked_line result ≡ serve_found (option_map (λ text. text.now) settings.entry) }
+{
+    let settings = settings?;
+    Some(Asked::Serve { settings })
+}
+
 // The talk of these words.
 fn talk_asked<'a>(
     host: Option<&'a str>,
@@ -77,6 +85,7 @@ fn asked_of<'a>(mode: Mode, found: &ArgMatches<'a>) -> Option<Asked<'a>>
     match mode {
         Mode::Pipe => Some(pipe_asked(found.get_str("settings"))),
         Mode::Replay => replay_asked(found.get_str("settings"), found.get_str("schedule")),
+        Mode::Serve => serve_asked(found.get_str("settings")),
         Mode::Talk => talk_asked(
             found.get_str("address"),
             found.get_str("port"),
@@ -115,6 +124,7 @@ pub fn read_words<'a>(alloc: Global, words: &'a [String]) -> Result<Option<Asked
     match first.as_str() {
         "pipe" => words_behind(alloc, Mode::Pipe, later),
         "replay" => words_behind(alloc, Mode::Replay, later),
+        "serve" => words_behind(alloc, Mode::Serve, later),
         "talk" => words_behind(alloc, Mode::Talk, later),
         "drill" => words_behind(alloc, Mode::Drill, later),
         _ => Ok(None),

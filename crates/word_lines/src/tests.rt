@@ -34,6 +34,12 @@ fn lines_are_read(rt: HostRuntime) -> Result<(), Fail> {
             },
         ),
         (
+            "serve two.toml",
+            Asked::Serve {
+                settings: "two.toml",
+            },
+        ),
+        (
             "talk 127.0.0.1 8821 bell.script",
             Asked::Talk {
                 place,
@@ -72,6 +78,9 @@ fn other_words_are_no_line(rt: HostRuntime) -> Result<(), Fail> {
         "replay one",
         "replay one two three",
         "replay one -v",
+        "serve",
+        "serve one two",
+        "serve --help",
         "talk 127.0.0.1 8821",
         "talk 127.0.0.01 8821 script",
         "talk localhost 8821 script",

@@ -3,14 +3,14 @@ use Rattle.std.proofs.lemmas.Result.{err_from_is_err_and}
 use Rattle.node_table.specs.declared.settings.Settings.{Settings}
 use Rattle.node_table.specs.Document.{IsInRange}
 use Rattle.qron_cli.specs.Files.{SaysSettings}
-use Rattle.qron_cli.specs.Seen.{Seen}
+use Rattle.cqc_server.specs.Watch.{LinkSeen}
 use Rattle.qron_cli.specs.Statuses.{status_of}
 use Rattle.qron_cli.proofs.Answering.{stopped_by_settings, pipe_with_file}
 use Rattle.qron_cli.proofs.pipe_command.run_pipe_with.Goals as goal
 
 pub returns-in_err-settings : goal.returns-in_err-settings
 returns-in_err-settings g c =
-    let seen : g.row.H-Pipe.Denot → Seen = λ pipe. record { left = g.H.Pipe.Source.left pipe; held = g.H.Pipe.Sink.held pipe; read_faults = g.H.Pipe.Source.read_faults pipe; write_faults = g.H.Pipe.Sink.write_faults pipe } in
+    let seen : g.row.H-Pipe.Denot → LinkSeen = λ pipe. record { left = g.H.Pipe.Source.left pipe; held = g.H.Pipe.Sink.held pipe; read_faults = g.H.Pipe.Source.read_faults pipe; write_faults = g.H.Pipe.Sink.write_faults pipe } in
     let name = c.args.settings.now in
     let before = g.H.House.facts c.args.house.now in
     let p = err_from_is_err_and c.from_residual.result c.from_residual.ensures.1 in
@@ -22,7 +22,7 @@ returns-in_err-settings g c =
 
 pub returns : goal.returns
 returns g c =
-    let seen : g.row.H-Pipe.Denot → Seen = λ pipe. record { left = g.H.Pipe.Source.left pipe; held = g.H.Pipe.Sink.held pipe; read_faults = g.H.Pipe.Source.read_faults pipe; write_faults = g.H.Pipe.Sink.write_faults pipe } in
+    let seen : g.row.H-Pipe.Denot → LinkSeen = λ pipe. record { left = g.H.Pipe.Source.left pipe; held = g.H.Pipe.Sink.held pipe; read_faults = g.H.Pipe.Source.read_faults pipe; write_faults = g.H.Pipe.Sink.write_faults pipe } in
     pipe_with_file g.H.Dice.Dice.word c.args.settings.now c.in_ok-settings.settings
     (g.H.House.facts c.args.house.now) (g.H.House.facts c.settings_of.new.house) (g.H.House.facts c.run_pipe.new.house)
     (seen (g.H.House.pipe_of c.args.house.now)) (seen (g.H.House.pipe_of c.settings_of.new.house)) (seen (g.H.House.pipe_of c.run_pipe.new.house))

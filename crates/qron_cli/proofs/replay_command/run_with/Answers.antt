@@ -4,14 +4,14 @@ use Rattle.schedule.specs.declared.plans.Schedule.{Schedule}
 use Rattle.schedule.specs.Views.{plans}
 use Rattle.qron_cli.specs.Files.{SaysSchedule}
 use Rattle.qron_cli.specs.Seats.{CanPlay}
-use Rattle.qron_cli.specs.Seen.{Seen}
+use Rattle.cqc_server.specs.Watch.{LinkSeen}
 use Rattle.qron_cli.specs.Statuses.{status_of}
 use Rattle.qron_cli.proofs.Answering.{stopped_by_schedule, replay_with_schedule}
 use Rattle.qron_cli.proofs.replay_command.run_with.Goals as goal
 
 pub returns-in_err-schedule : goal.returns-in_err-schedule
 returns-in_err-schedule g c =
-    let seen : g.row.H-Pipe.Denot → Seen = λ pipe. record { left = g.H.Pipe.Source.left pipe; held = g.H.Pipe.Sink.held pipe; read_faults = g.H.Pipe.Source.read_faults pipe; write_faults = g.H.Pipe.Sink.write_faults pipe } in
+    let seen : g.row.H-Pipe.Denot → LinkSeen = λ pipe. record { left = g.H.Pipe.Source.left pipe; held = g.H.Pipe.Sink.held pipe; read_faults = g.H.Pipe.Source.read_faults pipe; write_faults = g.H.Pipe.Sink.write_faults pipe } in
     let p = err_from_is_err_and c.from_residual.result c.from_residual.ensures.1 in
     let name = c.args.schedule.now in
     let before = g.H.House.facts c.args.house.now in
@@ -22,7 +22,7 @@ returns-in_err-schedule g c =
 
 pub returns : goal.returns
 returns g c =
-    let seen : g.row.H-Pipe.Denot → Seen = λ pipe. record { left = g.H.Pipe.Source.left pipe; held = g.H.Pipe.Sink.held pipe; read_faults = g.H.Pipe.Source.read_faults pipe; write_faults = g.H.Pipe.Sink.write_faults pipe } in
+    let seen : g.row.H-Pipe.Denot → LinkSeen = λ pipe. record { left = g.H.Pipe.Source.left pipe; held = g.H.Pipe.Sink.held pipe; read_faults = g.H.Pipe.Source.read_faults pipe; write_faults = g.H.Pipe.Sink.write_faults pipe } in
     let name = c.args.schedule.now in
     let before = g.H.House.facts c.args.house.now in
     let s = plans c.in_ok-schedule.schedule in

@@ -3,14 +3,14 @@ use Rattle.std.specs.Prelude.{map}
 use Rattle.std.proofs.lemmas.Result.{err_from_is_err_and}
 use Rattle.script.specs.Views.{sending_of}
 use Rattle.script.specs.declared.reader.Message.{Message}
-use Rattle.qron_cli.specs.Seen.{Seen}
+use Rattle.cqc_server.specs.Watch.{LinkSeen}
 use Rattle.qron_cli.specs.Talk.{SaysScript, CanTalk}
 use Rattle.qron_cli.proofs.Talks.{stopped_by_script}
 use Rattle.qron_cli.proofs.talk_command.run_talk.Goals as goal
 
 pub returns-in_err-messages : goal.returns-in_err-messages
 returns-in_err-messages g c =
-    let seen : g.row.H-Pipe.Denot → Seen = λ pipe. record { left = g.H.Pipe.Source.left pipe; held = g.H.Pipe.Sink.held pipe; read_faults = g.H.Pipe.Source.read_faults pipe; write_faults = g.H.Pipe.Sink.write_faults pipe } in
+    let seen : g.row.H-Pipe.Denot → LinkSeen = λ pipe. record { left = g.H.Pipe.Source.left pipe; held = g.H.Pipe.Sink.held pipe; read_faults = g.H.Pipe.Source.read_faults pipe; write_faults = g.H.Pipe.Sink.write_faults pipe } in
     let name = c.args.script.now in
     let before = g.H.House.facts c.args.house.now in
     let p = err_from_is_err_and c.from_residual.result c.from_residual.ensures.1 in

@@ -1,4 +1,4 @@
-use Rattle.std.proofs.Common.{◌≡◌, length, Err, ap, ◌∙◌}
+use Rattle.std.proofs.Common.{length, Err, ap, ◌∙◌}
 use Rattle.quantum_hub.proofs.Waits.{waited_fault, fault_is}
 use Rattle.quantum_hub.proofs.looks.end.Goals as goal
 

@@ -1,4 +1,4 @@
-use Rattle.std.proofs.Common.{◌≡◌, ◌≢◌, [], Some, sym, ap, subst, ◌∙◌}
+use Rattle.std.proofs.Common.{◌≢◌, [], sym, subst, ◌∙◌}
 use Rattle.network_model.specs.declared.Line.{Line}
 use Rattle.virtual_node.specs.Node.{arrived_map}
 use Rattle.quantum_hub.proofs.Queues.{looked_empty, looked_here, same_line}

@@ -1,4 +1,3 @@
-use Rattle.std.proofs.Common.{◌≡◌}
 use Rattle.held_board.specs.Held.{held_cells}
 use Rattle.quantum_hub.proofs.Steps.{same_keeps, keeps_along, step_keeps}
 use Rattle.quantum_hub.proofs.making.make.Goals as goal

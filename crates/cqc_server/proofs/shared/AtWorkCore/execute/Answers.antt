@@ -17,4 +17,5 @@ returns-clause-led g c =
       refl,
       refl,
       refl,
+      call.times,
     )

@@ -1,4 +1,4 @@
-use Rattle.std.proofs.Common.{◌≡◌, Some, refl, sym, subst, ◌∙◌}
+use Rattle.std.proofs.Common.{Some, refl, sym, subst, ◌∙◌}
 use Rattle.qron_link.specs.Outside.{Rose}
 use Rattle.quantum_hub.specs.declared.tries.Turn.TheVariants.{Done, Full}
 use Rattle.quantum_hub.proofs.Waits.{waited_not, waited_twice}

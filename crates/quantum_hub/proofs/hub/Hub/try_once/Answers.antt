@@ -1,4 +1,4 @@
-use Rattle.std.proofs.Common.{◌≡◌, ◌<◌, ◌+◌, length, Some, IsSome, is_some, Err, refl, sym, ap, subst, ◌∙◌, arith}
+use Rattle.std.proofs.Common.{◌<◌, length, is_some, refl, sym, ap, subst, ◌∙◌, arith}
 use Rattle.network_model.specs.Network.{Shape}
 use Rattle.network_model.specs.declared.Call.{Call}
 use Rattle.network_model.specs.declared.Entry.{Entry}

@@ -1,4 +1,4 @@
-use Rattle.std.proofs.Common.{◌≡◌, ◌≤◌, refl, ◌∙◌, arith}
+use Rattle.std.proofs.Common.{refl, ◌∙◌, arith}
 use Rattle.quantum_hub.proofs.Waits.{waited_not, waited_twice}
 use Rattle.quantum_hub.proofs.Turns.{turn_along}
 use Rattle.quantum_hub.proofs.hub.Hub.turn.Goals as goal

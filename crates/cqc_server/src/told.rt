@@ -1,11 +1,11 @@
-// What contracts see of pipes and links.
+// What contracts see of links.
 use qron_link::Link;
 
-/// What contracts see of a pipe or a link.
+/// What contracts see of a link.
 pub trait Told {
-    ghost use Rattle.qron_cli.specs.Seen.{Seen};
+    ghost use Rattle.cqc_server.specs.Watch.{LinkSeen};
 
-    ghost seen: { Self → Seen };
+    ghost seen: { Self → LinkSeen };
 }
 
 impl<L: Link> Told for L {

@@ -19,8 +19,9 @@ use Rattle.cqc_session.specs.Session.{EndCause}
 use Rattle.factored_core.specs.Core.{Journal}
 use Rattle.cqc_session.specs.State.{State, begun}
 use Rattle.cqc_session.specs.Serving.{Served, WordedAfter}
-use Rattle.qron_cli.specs.Pipe.{pipe_connection, pipe_setting, pipe_actor, read_limit, PipeServed}
-use Rattle.qron_cli.specs.Seen.{Seen}
+use Rattle.cqc_server.specs.Record.{read_limit}
+use Rattle.qron_cli.specs.Pipe.{pipe_connection, pipe_setting, pipe_actor, PipeServed}
+use Rattle.cqc_server.specs.Watch.{LinkSeen}
 
 abbrev nobody : Option Call
 nobody = None
@@ -59,7 +60,7 @@ module _ (shape : Shape) (capacity : ℕ) (words : ℕ → ℕ) (rest : Option (
   last_turn other = last_by ending speaks.ends other
 
 -- what a session over the core did
-served_pipe : (shape : Shape) (capacity : ℕ) (words : ℕ → ℕ) (old new : Seen) (after : List Entry) (ending : Ending)
+served_pipe : (shape : Shape) (capacity : ℕ) (words : ℕ → ℕ) (old new : LinkSeen) (after : List Entry) (ending : Ending)
     → Served pipe_connection read_limit old.left new.left old.held new.held [] after (length after) capacity ending
     → EndCause ending old.read_faults new.read_faults old.write_faults new.write_faults
     → IsLegal shape after → AreWorded words after → length after ≤ capacity → PipeServed shape capacity words old new ending
@@ -86,7 +87,7 @@ worded_alone : (words : ℕ → ℕ) (after : List Entry) (taken : ℕ) → Word
 worded_alone words after taken w = subst (AreWorded words) (sym w.added) w.worded
 
 -- the same of the journal that it began with, and of the session
-pub journal_served : (f : ℕ → ℕ → ℕ → ℕ) (old new : Seen) (before after : Journal) (s : State) (ending : Ending) (taken : ℕ)
+pub journal_served : (f : ℕ → ℕ → ℕ → ℕ) (old new : LinkSeen) (before after : Journal) (s : State) (ending : Ending) (taken : ℕ)
     → before.entries ≡ [] → s ≡ begun pipe_connection read_limit
     → Served s.connection s.cap old.left new.left old.held new.held before.entries after.entries (length after.entries) before.capacity ending
     → EndCause ending old.read_faults new.read_faults old.write_faults new.write_faults
