@@ -9,7 +9,8 @@ use crate::reply::{refused, write_answer};
 use crate::stage::Stage;
 use crate::take::take_message;
 use crate::turn::Turn;
-use network_model::{Call, CoreReply, JournalFull};
+use cqc_model::Instr;
+use network_model::{Call, CoreReply, JournalFull, Kind, kind_of};
 use qron_link::{Link, send_link};
 use session_model::Ending;
 use std::alloc::{AllocError, Global};
@@ -96,7 +97,8 @@ impl Session {
         self.stage = Stage::Ready;
     }
 
-    /// Reads and answers until a command is to be executed or the session ends.
+    /// Reads and answers until a command is to be executed or the session ends. Behind it no reply is held back while a
+    /// command waits for a qubit.
     pub fn poll<L: Link>(&mut self, link: &mut L) -> Turn
         requires { self.old.stage ≡ Ready }
         ensures stage { self.new.stage ≡ stage_after result }
@@ -109,6 +111,9 @@ impl Session {
     {
         match self.advance(link) {
             Ok(call) => {
+                if may_wait(&call.command.instr) {
+                    link.deliver();
+                }
                 self.stage = Stage::Waiting;
                 Turn::Execute(call)
             }
@@ -199,4 +204,9 @@ impl Session {
             }),
         }
     }
+}
+
+// Whether a command may wait for a qubit of another node.
+fn may_wait(instr: &Instr) -> bool {
+    matches!(kind_of(instr), Kind::Receive(_))
 }

@@ -147,7 +147,7 @@ impl<
     }
 
     fn connect(&mut self, place: Place) -> Option<TcpLink> {
-        let Ok(link) = TcpLink::connect(self.system, place.address, place.port) else {
+        let Ok(link) = TcpLink::connect(self.alloc, self.system, place.address, place.port) else {
             self.faults = self.faults.saturating_add(1);
             return None;
         };
@@ -187,7 +187,7 @@ fn doors_at<N: Net<Listener = TcpListener, Stream = TcpStream>, E: Write + Drop>
     let mut doors = Vec::new(alloc);
     for node in 0..shape.nodes() {
         let place = shape.place(node);
-        let door = match TcpDoor::bind(net, place.address, place.port) {
+        let door = match TcpDoor::bind(alloc, net, place.address, place.port) {
             Ok(door) => door,
             Err(error) => {
                 errors.tell_refused(place);

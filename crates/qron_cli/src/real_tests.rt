@@ -119,7 +119,7 @@ fn workers_of_a_node_share_its_port(rt: HostRuntime) -> Result<(), Fail> {
 #[test]
 fn port_that_is_taken_is_a_fault(rt: HostRuntime) -> Result<(), Fail> {
     let alloc = rt.alloc();
-    let other = TcpDoor::bind(&rt, 0x7f00_0001, 0)?;
+    let other = TcpDoor::bind(rt.alloc(), &rt, 0x7f00_0001, 0)?;
     let port = other.port()?;
     let errors = Errors {
         is_terminal: true,

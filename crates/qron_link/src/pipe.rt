@@ -226,7 +226,7 @@ impl<R: Reader, W: Writer> Link for Pipe<R, W> {
     ghost writes_take_room = { λ _ _ _ _ _. tt };
 
     // What can't be sent stays, so a `flush` behind this tells it.
-    fn close(&mut self)
+    fn deliver(&mut self)
         ensures left { left_of self.new.bytes ≡ left_of self.old.bytes }
         ensures held { held_of self.new.bytes ≡ held_of self.old.bytes }
         ensures read_faults { self.new.counts.reads ≡ self.old.counts.reads }
@@ -234,5 +234,15 @@ impl<R: Reader, W: Writer> Link for Pipe<R, W> {
         ensures step { Unit {0} }
     {
         let _ = self.send_gathered();
+    }
+
+    fn close(&mut self)
+        ensures left { left_of self.new.bytes ≡ left_of self.old.bytes }
+        ensures held { held_of self.new.bytes ≡ held_of self.old.bytes }
+        ensures read_faults { self.new.counts.reads ≡ self.old.counts.reads }
+        ensures write_faults { self.new.counts.writes ≡ self.old.counts.writes }
+        ensures step { Unit {0} }
+    {
+        self.deliver();
     }
 }

@@ -1,26 +1,35 @@
 // Links and doors over TCP. This is the trusted edge: what a socket gives and takes, no contract says.
-ghost use Rattle.std.specs.Prelude.{◌≡◌, ℕ, ◌≤◌, ◌<◌, None, length};
+ghost use Rattle.std.specs.Prelude.{◌≡◌, ℕ, ◌≤◌, ◌<◌, None, length, IfOk};
 
 use crate::{Door, Got, Knock, Link, Put, Sink, Source};
-use std::io::{self, Read, Write};
+use std::alloc::Global;
+use std::io::{self, BufReader, BufWriter, ErrorKind, Read, Write};
 use std::net::{Ipv4Addr, Net, Shutdown, SocketAddr, TcpListener, TcpStream};
+
+// The bytes of each buffer.
+const BUFFER_SIZE: usize = 16_384;
 
 /// A TCP connection as a link. It tells no bytes.
 ///
-/// Each side counts its faults, one for each error of the system. A write goes out at once.
+/// Each side counts its faults, one for each error of the system. Input is read ahead, and what is written is gathered. It
+/// goes out before a read that has to wait, by `deliver`, at the end, and where the buffer is full; a read before which it
+/// can't go out fails.
 #[derive(Drop)]
 pub struct TcpLink {
-    stream: TcpStream,
+    input: BufReader<TcpStream>,
+    output: BufWriter<TcpStream>,
     read_faults: u64,
     write_faults: u64,
 }
 
 impl TcpLink {
     // A link over a connection that has just been made.
-    fn over(stream: TcpStream) -> io::Result<TcpLink> {
+    fn over(alloc: Global, stream: TcpStream) -> io::Result<TcpLink> {
         stream.set_nodelay(true)?;
+        let output = stream.try_clone()?;
         Ok(TcpLink {
-            stream,
+            input: BufReader::with_capacity(alloc, BUFFER_SIZE, stream)?,
+            output: BufWriter::with_capacity(alloc, BUFFER_SIZE, output)?,
             read_faults: 0,
             write_faults: 0,
         })
@@ -28,11 +37,27 @@ impl TcpLink {
 
     /// Connects to an address, as the number of its four bytes, the first one highest.
     pub fn connect<N: Net<Stream = TcpStream>>(
+        alloc: Global,
         net: &N,
         address: u32,
         port: u16,
     ) -> io::Result<TcpLink> {
-        TcpLink::over(TcpStream::connect(net, socket_address(address, port))?)
+        TcpLink::over(
+            alloc,
+            TcpStream::connect(net, socket_address(address, port))?,
+        )
+    }
+
+    // Reads, after all was sent where no input was read ahead.
+    fn take(&mut self, room: &mut [u8]) -> io::Result<usize>
+        ensures most { IfOk result (λ n. n ≤ length room.new) }
+        ensures read_faults { self.new.read_faults ≡ self.old.read_faults }
+        ensures write_faults { self.new.write_faults ≡ self.old.write_faults }
+    {
+        if self.input.buffer().is_empty() {
+            self.output.flush()?;
+        }
+        self.input.read(room)
     }
 }
 
@@ -51,7 +76,7 @@ impl Source for TcpLink {
     ghost was_read = { λ old new. new.write_faults ≡ old.write_faults };
 
     fn read(&mut self, room: &mut [u8]) -> Got {
-        match self.stream.read(room) {
+        match self.take(room) {
             Ok(0) => Got::End,
             Ok(n) => Got::Bytes(n),
             Err(_) => {
@@ -77,7 +102,7 @@ impl Sink for TcpLink {
     ghost writes_on = { λ _ _ _ h k. k ∙ h };
 
     fn write(&mut self, piece: &[u8]) -> Put {
-        match self.stream.write(piece) {
+        match self.output.write(piece) {
             Ok(n) if n > 0 => Put::Bytes(n),
             _ => {
                 self.write_faults = self.write_faults.saturating_add(1);
@@ -115,15 +140,21 @@ impl Link for TcpLink {
 
     ghost writes_take_room = { λ _ _ _ _ _. tt };
 
-    // Where the other side is gone already, there is nothing to be shut down.
+    fn deliver(&mut self) {
+        let _ = self.output.flush();
+    }
+
+    // Where the other side is gone already, there is nothing to be sent or shut down.
     fn close(&mut self) {
-        let _ = self.stream.shutdown(Shutdown::Both);
+        let _ = self.output.flush();
+        let _ = self.output.get_ref().shutdown(Shutdown::Both);
     }
 }
 
 /// A TCP listener as a door. It tells no links, and is never closed.
 #[derive(Drop)]
 pub struct TcpDoor {
+    alloc: Global,
     listener: TcpListener,
     faults: u64,
 }
@@ -132,12 +163,14 @@ impl TcpDoor {
     /// A door at an address of this machine, as the number of its four bytes, the first one highest. With port 0 the
     /// system picks a free one.
     pub fn bind<N: Net<Listener = TcpListener, Stream = TcpStream>>(
+        alloc: Global,
         net: &N,
         address: u32,
         port: u16,
     ) -> io::Result<TcpDoor> {
         let listener = TcpListener::bind(net, socket_address(address, port))?;
         Ok(TcpDoor {
+            alloc,
             listener,
             faults: 0,
         })
@@ -147,6 +180,7 @@ impl TcpDoor {
     pub fn share(&self) -> io::Result<TcpDoor> {
         let listener = self.listener.try_clone()?;
         Ok(TcpDoor {
+            alloc: self.alloc,
             listener,
             faults: 0,
         })
@@ -159,7 +193,7 @@ impl TcpDoor {
 
     fn accept(&self) -> io::Result<TcpLink> {
         let (stream, _) = self.listener.accept()?;
-        TcpLink::over(stream)
+        TcpLink::over(self.alloc, stream)
     }
 }
 
