@@ -200,7 +200,7 @@ def waits():
         link.send(message(9, command("recv")))
         holds("it waits", link.silent(0.05))
         link.reset()
-        same("a peer that fails while its call waits", (4, ["0 0 0 writefault", "entries 1"], "qron: fault\n"), server.finish())
+        same("a peer that fails while its call waits", (4, ["0 0 0 readfault", "entries 1"], "qron: fault\n"), server.finish())
     with Server(PROGRAM, 1, 1, 1, patience=0, wait_ms=1_000) as server:
         script = Script(0)
         with server.connect(0) as link:

@@ -104,7 +104,7 @@ def bad_peers_change_nothing():
                 broken(server, node, HELLO_9, HELLO_9)
         status, lines, complained = server.finish()
     clean = ["clean"] * 5
-    ends = [clean, ["writefault"] + clean[1:], ["cut", "cut", "cut", "readfault", "clean"], clean, clean]
+    ends = [clean, ["readfault"] + clean[1:], ["cut", "cut", "cut", "readfault", "clean"], clean, clean]
     want = [f"{node} {serial} {node} {ending}" for node in range(5) for serial, ending in enumerate(ends[node])]
     same("bad peers and good ones", (4, want + [f"entries {entries}"], "qron: fault\n"), (status, lines, complained))
 
@@ -130,7 +130,7 @@ def one_node_serves_on():
     for seat, column in enumerate(columns):
         same(f"seat {seat}", [[str(seat), str(serial), "0"] for serial in range(4)], [line[:3] for line in column])
     ends = sorted([line[3] for line in column] for column in columns)
-    same("the endings of a node", [["clean"] * 4, ["cut"] + ["clean"] * 3, ["writefault"] + ["clean"] * 3], ends)
+    same("the endings of a node", [["clean"] * 4, ["cut"] + ["clean"] * 3, ["readfault"] + ["clean"] * 3], ends)
 
 
 run(bad_peers_change_nothing, one_node_serves_on)

@@ -13,13 +13,31 @@ const BUFFER_SIZE: usize = 16_384;
 ///
 /// Each side counts its faults, one for each error of the system. Input is read ahead, and what is written is gathered. It
 /// goes out before a read that has to wait, by `deliver`, at the end, and where the buffer is full; a read before which it
-/// can't go out fails.
+/// can't go out fails. Once it is closed, it has no socket and no buffers any more, and every read and write fails.
 #[derive(Drop)]
 pub struct TcpLink {
-    input: BufReader<TcpStream>,
-    output: BufWriter<TcpStream>,
+    socket: Option<Socket>,
     read_faults: u64,
     write_faults: u64,
+}
+
+// Both sides of a connection, with buffers.
+#[derive(Drop)]
+struct Socket {
+    input: BufReader<TcpStream>,
+    output: BufWriter<TcpStream>,
+}
+
+impl Socket {
+    // Reads, after all was sent where no input was read ahead.
+    fn read(&mut self, room: &mut [u8]) -> io::Result<usize>
+        ensures { IfOk result (λ n. n ≤ length room.new) }
+    {
+        if self.input.buffer().is_empty() {
+            self.output.flush()?;
+        }
+        self.input.read(room)
+    }
 }
 
 impl TcpLink {
@@ -28,8 +46,10 @@ impl TcpLink {
         stream.set_nodelay(true)?;
         let output = stream.try_clone()?;
         Ok(TcpLink {
-            input: BufReader::with_capacity(alloc, BUFFER_SIZE, stream)?,
-            output: BufWriter::with_capacity(alloc, BUFFER_SIZE, output)?,
+            socket: Some(Socket {
+                input: BufReader::with_capacity(alloc, BUFFER_SIZE, stream)?,
+                output: BufWriter::with_capacity(alloc, BUFFER_SIZE, output)?,
+            }),
             read_faults: 0,
             write_faults: 0,
         })
@@ -46,18 +66,6 @@ impl TcpLink {
             alloc,
             TcpStream::connect(net, socket_address(address, port))?,
         )
-    }
-
-    // Reads, after all was sent where no input was read ahead.
-    fn take(&mut self, room: &mut [u8]) -> io::Result<usize>
-        ensures most { IfOk result (λ n. n ≤ length room.new) }
-        ensures read_faults { self.new.read_faults ≡ self.old.read_faults }
-        ensures write_faults { self.new.write_faults ≡ self.old.write_faults }
-    {
-        if self.input.buffer().is_empty() {
-            self.output.flush()?;
-        }
-        self.input.read(room)
     }
 }
 
@@ -76,10 +84,10 @@ impl Source for TcpLink {
     ghost was_read = { λ old new. new.write_faults ≡ old.write_faults };
 
     fn read(&mut self, room: &mut [u8]) -> Got {
-        match self.take(room) {
-            Ok(0) => Got::End,
-            Ok(n) => Got::Bytes(n),
-            Err(_) => {
+        match self.socket.as_mut().map(|socket| socket.read(room)) {
+            Some(Ok(0)) => Got::End,
+            Some(Ok(n)) => Got::Bytes(n),
+            Some(Err(_)) | None => {
                 self.read_faults = self.read_faults.saturating_add(1);
                 Got::Failed
             }
@@ -102,8 +110,8 @@ impl Sink for TcpLink {
     ghost writes_on = { λ _ _ _ h k. k ∙ h };
 
     fn write(&mut self, piece: &[u8]) -> Put {
-        match self.output.write(piece) {
-            Ok(n) if n > 0 => Put::Bytes(n),
+        match self.socket.as_mut().map(|socket| socket.output.write(piece)) {
+            Some(Ok(n)) if n > 0 => Put::Bytes(n),
             _ => {
                 self.write_faults = self.write_faults.saturating_add(1);
                 Put::Failed
@@ -141,13 +149,17 @@ impl Link for TcpLink {
     ghost writes_take_room = { λ _ _ _ _ _. tt };
 
     fn deliver(&mut self) {
-        let _ = self.output.flush();
+        if let Some(socket) = &mut self.socket {
+            let _ = socket.output.flush();
+        }
     }
 
     // Where the other side is gone already, there is nothing to be sent or shut down.
     fn close(&mut self) {
-        let _ = self.output.flush();
-        let _ = self.output.get_ref().shutdown(Shutdown::Both);
+        self.deliver();
+        if let Some(socket) = self.socket.take() {
+            let _ = socket.output.get_ref().shutdown(Shutdown::Both);
+        }
     }
 }
 
