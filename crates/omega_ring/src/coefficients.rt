@@ -159,31 +159,18 @@ impl Wide {
         requires right { CoordinatesBelow (2 ^ 61) (wide_value other) }
         ensures { wide_value result ≡ wide_value self ⊗ wide_value other }
     {
+        let Wide { a, b, c, d } = self;
+        let Wide {
+            a: e,
+            b: f,
+            c: g,
+            d: h,
+        } = other;
         Wide {
-            a: total(
-                times(self.a, other.a),
-                minus(self.b, other.d),
-                minus(self.c, other.c),
-                minus(self.d, other.b),
-            ),
-            b: total(
-                times(self.a, other.b),
-                times(self.b, other.a),
-                minus(self.c, other.d),
-                minus(self.d, other.c),
-            ),
-            c: total(
-                times(self.a, other.c),
-                times(self.b, other.b),
-                times(self.c, other.a),
-                minus(self.d, other.d),
-            ),
-            d: total(
-                times(self.a, other.d),
-                times(self.b, other.c),
-                times(self.c, other.b),
-                times(self.d, other.a),
-            ),
+            a: total(times(a, e), minus(b, h), minus(c, g), minus(d, f)),
+            b: total(times(a, f), times(b, e), minus(c, h), minus(d, g)),
+            c: total(times(a, g), times(b, f), times(c, e), minus(d, h)),
+            d: total(times(a, h), times(b, g), times(c, f), times(d, e)),
         }
     }
 
@@ -192,19 +179,10 @@ impl Wide {
         requires { CoordinatesBelow (2 ^ 61) (wide_value self) }
         ensures { weight_value result ≡ weight (wide_value self) }
     {
+        let Wide { a, b, c, d } = self;
         Weight {
-            x: total(
-                times(self.a, self.a),
-                times(self.b, self.b),
-                times(self.c, self.c),
-                times(self.d, self.d),
-            ),
-            y: total(
-                times(self.a, self.b),
-                times(self.b, self.c),
-                times(self.c, self.d),
-                minus(self.d, self.a),
-            ),
+            x: total(times(a, a), times(b, b), times(c, c), times(d, d)),
+            y: total(times(a, b), times(b, c), times(c, d), minus(d, a)),
         }
     }
 }
