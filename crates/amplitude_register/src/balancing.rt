@@ -8,6 +8,7 @@ ghost use Rattle.amplitude_register.specs.Multiples.{AllWithin, AreTimes};
 use omega_ring::{Omega, Weight};
 
 /// Each entry times sqrt(2) + 1.
+#[tactic(auto, using(crate::proofs::Loops::each_entry))]
 pub(crate) fn raise(list: &mut [Omega])
     requires { AllWithin (2 ^ 61) (omega_values list.old) }
     ensures { AreTimes (omega_values list.new) (omega_values list.old) unit_up }
@@ -18,6 +19,7 @@ pub(crate) fn raise(list: &mut [Omega])
 }
 
 /// Each entry times sqrt(2) - 1.
+#[tactic(auto, using(crate::proofs::Loops::each_entry))]
 pub(crate) fn lower(list: &mut [Omega])
     requires { AllWithin (2 ^ 61) (omega_values list.old) }
     ensures { AreTimes (omega_values list.new) (omega_values list.old) unit_down }

@@ -20,6 +20,7 @@ fn is_unit(u: Omega) -> bool
 }
 
 /// Each entry over one that divides it.
+#[tactic(auto, using(crate::proofs::Loops::each_entry))]
 fn divide_by(list: &mut [Omega], u: Omega)
     requires range { AllWithin (2 ^ 31) (omega_values list.old) }
     requires ready { IsReady (omega_value u) }

@@ -35,6 +35,7 @@ pub(crate) fn all_divisible_by_both(list: &[Omega]) -> bool
 }
 
 /// Each entry over 1 - w^2.
+#[tactic(auto, using(crate::proofs::Loops::each_entry))]
 pub(crate) fn divide_by_both(list: &mut [Omega])
     requires range { AllWithin (2 ^ 61) (omega_values list.old) }
     requires divides { DividesAll both_deltas (omega_values list.old) }
@@ -46,6 +47,7 @@ pub(crate) fn divide_by_both(list: &mut [Omega])
 }
 
 /// Each entry over 1 - w.
+#[tactic(auto, using(crate::proofs::Loops::each_entry))]
 pub(crate) fn divide_by_delta(list: &mut [Omega])
     requires range { AllWithin (2 ^ 61) (omega_values list.old) }
     requires divides { DividesAll delta (omega_values list.old) }
@@ -57,6 +59,7 @@ pub(crate) fn divide_by_delta(list: &mut [Omega])
 }
 
 /// Each entry over 1 + w.
+#[tactic(auto, using(crate::proofs::Loops::each_entry))]
 pub(crate) fn divide_by_conjugate(list: &mut [Omega])
     requires range { AllWithin (2 ^ 61) (omega_values list.old) }
     requires divides { DividesAll delta (omega_values list.old) }
