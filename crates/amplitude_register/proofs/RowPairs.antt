@@ -1,12 +1,13 @@
 -- Rows in pairs that differ in one bit, and lists of which a gate has changed the pairs so far.
 use Prim.Native.Nat.{zero, suc}
-use Rattle.std.proofs.Common.{◌≡◌, ◌≢◌, ℕ, ◌+◌, ◌*◌, ◌/◌, ◌%◌, ◌<◌, ◌≤◌, ◌^◌, ◌==◌, bit_or, Bool, true, false, cond, List, length, map, slice_index_or, slice_set, refl, sym, ap, subst, ◌∙◌, arith, ⊎_elim, get_or-set_same, get_or-set_other}
+use Rattle.std.proofs.Common.{◌≡◌, ◌≢◌, ℕ, ◌+◌, ◌*◌, ◌/◌, ◌%◌, ◌<◌, ◌≤◌, ◌^◌, ◌==◌, bit_or, Bool, true, false, cond, List, [], ◌∷◌, length, map, slice_index_or, slice_set, refl, sym, ap, subst, ◌∙◌, arith, ⊎_elim, get_or-set_same, get_or-set_other}
 use Rattle.std.proofs.Math.Nat.{pow-succ', div-div-eq-div-mul}
 use Rattle.std.proofs.lemmas.Nat.Bits.{bit_at_lowest, bit_at-suc}
 use Rattle.std.specs.Int.{bit_at}
+use Rattle.std.specs.List.{swap}
 use native.Mathlib.Nat.{pow-le-pow_right}
 use Rattle.std.proofs.lemmas.Bool.{cases_lt}
-use Rattle.std.proofs.lemmas.List.{length-set}
+use Rattle.std.proofs.lemmas.List.{length-set, get_or_default}
 use Rattle.state_model.proofs.Registers.{low_with_bit, high_with_bit}
 use Rattle.state_model.proofs.RegisterLists.{row_split}
 use Rattle.state_model.proofs.Gates.{entry_absent, with_bit_again, with_own_bit}
@@ -43,6 +44,13 @@ power_small q l = let h : q ≤ 11 = omega arith in let p : 2 ^ q ≤ 2 ^ 11 = p
 pub high_test : (q x : ℕ) → q < 12 → bit_or x (1 * 2 ^ q % 2 ^ 64) ≡ with_bit q true x
 unfolding with_bit
 high_test q x l = ap (bit_or x) (power_small q l)
+
+-- ---- two rows that change places
+pub swapped : (xs : List Omega) (i j : ℕ) → i < length xs → j < length xs → swap xs i j ≡ slice_set (slice_set xs i (slice_index_or xs j zero_omega)) j (slice_index_or xs i zero_omega)
+swapped [] i j h k = absurd (omega arith)
+swapped (x ∷ xs) i j h k =
+    ap (λ (t : Omega). slice_set (slice_set (x ∷ xs) i t) j (slice_index_or (x ∷ xs) i x)) (get_or_default (x ∷ xs) j x zero_omega k)
+    ∙ ap (slice_set (slice_set (x ∷ xs) i (slice_index_or (x ∷ xs) j zero_omega)) j) (get_or_default (x ∷ xs) i x zero_omega h)
 
 -- ---- rows below a power of 2
 pub with_bit-below : (n j : ℕ) (b : Bool) (r : ℕ) → j < n → r < 2 ^ n → with_bit j b r < 2 ^ n

@@ -5,6 +5,7 @@ ghost use Rattle.state_model.specs.CoefficientList.{IsScaled, total_weight};
 ghost use Rattle.omega_ring.specs.Views.{omega_values, weight_value};
 ghost use Rattle.amplitude_register.specs.Multiples.{AllWithin, AreTimes};
 
+use crate::bounds::bounds;
 use omega_ring::{Omega, Weight};
 
 /// Each entry times sqrt(2) + 1.
@@ -37,6 +38,7 @@ pub(crate) fn balance(list: &mut [Omega], weight: Weight) -> Weight
     ensures balanced { IsBalanced (weight_value result) }
     ensures scaled { IsScaled (omega_values list.new) (omega_values list.old) }
 {
+    bounds(list, weight);
     if weight.is_high() {
         lower(list);
         balance(list, weight.lowered())

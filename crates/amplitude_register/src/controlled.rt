@@ -6,7 +6,7 @@ ghost use Rattle.state_model.specs.Amplitudes.{IsTwoGateList};
 ghost use Rattle.omega_ring.specs.Views.{omega_values};
 ghost use Rattle.amplitude_register.specs.Multiples.{AllWithin, HasPlace};
 
-use crate::rows::{has_bit, with_high_bit};
+use crate::rows::{exchange_two, has_bit, with_high_bit};
 use omega_ring::Omega;
 
 /// Whether the row's bit at the control is 1, and that at the target 0.
@@ -37,9 +37,7 @@ fn exchange_where(list: &mut [Omega], control: u8, target: u8)
     for row in 0..list.len() {
         if is_controlled(row, control, target) {
             let high = with_high_bit(list.len(), row, target);
-            let zero = list[row];
-            list[row] = list[high];
-            list[high] = zero;
+            exchange_two(list, row, high);
         }
     }
 }

@@ -6,6 +6,7 @@ ghost use Rattle.state_model.specs.CoefficientList.{DividesAll, IsScaled, IsNonz
 ghost use Rattle.omega_ring.specs.Views.{omega_values, weight_value};
 ghost use Rattle.amplitude_register.specs.Multiples.{AllWithin, AreTimes};
 
+use crate::bounds::bounds;
 use omega_ring::{Omega, Weight};
 
 /// Whether 1 - w divides each entry.
@@ -80,6 +81,7 @@ pub(crate) fn divide_out(list: &mut [Omega], weight: Weight) -> Weight
     ensures scaled { IsScaled (omega_values list.new) (omega_values list.old) }
     ensures done { ¬ (DividesAll delta (omega_values list.new)) }
 {
+    bounds(list, weight);
     if all_divisible_by_both(list) {
         divide_by_both(list);
         divide_out(list, weight.over_both())

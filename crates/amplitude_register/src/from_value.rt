@@ -17,12 +17,7 @@ impl Register {
     {
         self.next.take_head(&self.value);
         self.next.weight = self.value.weight.doubled();
-        passes::mix_front_into(
-            &mut self.next.entries,
-            &self.value.entries,
-            self.value.rows,
-            place,
-        );
+        passes::mix_front_into(&mut self.next.entries, &self.value, place);
         self.stage = Stage::Weighed;
     }
 
@@ -33,13 +28,7 @@ impl Register {
         ensures { IsGateStep (matrix (RotZ eighths)) place 1 (record self.old { next = prepared self.old.value }) self.new }
     {
         self.next.take_head(&self.value);
-        passes::turn_front_into(
-            &mut self.next.entries,
-            &self.value.entries,
-            self.value.rows,
-            place,
-            eighths,
-        );
+        passes::turn_front_into(&mut self.next.entries, &self.value, place, eighths);
         self.stage = Stage::Prepared;
     }
 
@@ -51,13 +40,7 @@ impl Register {
         ensures { IsTwoGateStep Cnot control target (record self.old { next = prepared self.old.value }) self.new }
     {
         self.next.take_head(&self.value);
-        two_passes::exchange_where_front_into(
-            &mut self.next.entries,
-            &self.value.entries,
-            self.value.rows,
-            control,
-            target,
-        );
+        two_passes::exchange_front_into(&mut self.next.entries, &self.value, control, target);
         self.stage = Stage::Prepared;
     }
 
@@ -69,13 +52,7 @@ impl Register {
         ensures { IsTwoGateStep Cphase one two (record self.old { next = prepared self.old.value }) self.new }
     {
         self.next.take_head(&self.value);
-        two_passes::negate_where_front_into(
-            &mut self.next.entries,
-            &self.value.entries,
-            self.value.rows,
-            one,
-            two,
-        );
+        two_passes::negate_front_into(&mut self.next.entries, &self.value, one, two);
         self.stage = Stage::Prepared;
     }
 }

@@ -4,6 +4,7 @@
 
 mod balancing;
 mod block;
+mod bounds;
 mod common;
 mod controlled;
 mod division;

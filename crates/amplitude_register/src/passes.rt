@@ -8,6 +8,7 @@ ghost use Rattle.state_model.specs.Amplitudes.{IsGateList, IsGateRow};
 ghost use Rattle.omega_ring.specs.Views.{omega_value, omega_values};
 ghost use Rattle.amplitude_register.specs.Multiples.{AllWithin, HasPlace};
 
+use crate::block::Block;
 use crate::rows::{has_bit, with_high_bit};
 use omega_ring::Omega;
 
@@ -98,33 +99,27 @@ fn turn_into_part(list: &mut [Omega], from: &[Omega], rows: usize, place: u8, ei
     turn_into(&mut list[..rows], &from[..rows], place, eighths);
 }
 
-/// As `mix_into`, at the front of two buffers.
-pub(crate) fn mix_front_into(entries: &mut Vec<Omega>, from: &Vec<Omega>, rows: usize, place: u8)
-    requires to { rows ≤ length entries.old.items }
-    requires from { rows ≤ length from.now.items }
-    requires place { HasPlace place rows }
-    requires range { AllWithin (2 ^ 61) (omega_values (take rows from.now.items)) }
+/// As `mix_into`, from a block to the front of a buffer.
+pub(crate) fn mix_front_into(entries: &mut Vec<Omega>, from: &Block, place: u8)
+    requires to { from.now.rows ≤ length entries.old.items }
+    requires from { from.now.rows ≤ length from.now.entries.items }
+    requires place { HasPlace place from.now.rows }
+    requires range { AllWithin (2 ^ 61) (omega_values (take from.now.rows from.now.entries.items)) }
     ensures room { length entries.new.items ≡ length entries.old.items }
-    ensures list { IsGateList (matrix H) place (omega_values (take rows from.now.items)) (omega_values (take rows entries.new.items)) }
+    ensures list { IsGateList (matrix H) place (omega_values (take from.now.rows from.now.entries.items)) (omega_values (take from.now.rows entries.new.items)) }
 {
-    mix_into_part(entries, from, rows, place);
+    mix_into_part(entries, &from.entries, from.rows, place);
 }
 
-/// As `turn_into`, at the front of two buffers.
-pub(crate) fn turn_front_into(
-    entries: &mut Vec<Omega>,
-    from: &Vec<Omega>,
-    rows: usize,
-    place: u8,
-    eighths: u8,
-)
-    requires to { rows ≤ length entries.old.items }
-    requires from { rows ≤ length from.now.items }
+/// As `turn_into`, from a block to the front of a buffer.
+pub(crate) fn turn_front_into(entries: &mut Vec<Omega>, from: &Block, place: u8, eighths: u8)
+    requires to { from.now.rows ≤ length entries.old.items }
+    requires from { from.now.rows ≤ length from.now.entries.items }
     requires eighths { eighths < 8 }
-    requires place { HasPlace place rows }
-    requires range { AllWithin (2 ^ 61) (omega_values (take rows from.now.items)) }
+    requires place { HasPlace place from.now.rows }
+    requires range { AllWithin (2 ^ 61) (omega_values (take from.now.rows from.now.entries.items)) }
     ensures room { length entries.new.items ≡ length entries.old.items }
-    ensures list { IsGateList (matrix (RotZ eighths)) place (omega_values (take rows from.now.items)) (omega_values (take rows entries.new.items)) }
+    ensures list { IsGateList (matrix (RotZ eighths)) place (omega_values (take from.now.rows from.now.entries.items)) (omega_values (take from.now.rows entries.new.items)) }
 {
-    turn_into_part(entries, from, rows, place, eighths);
+    turn_into_part(entries, &from.entries, from.rows, place, eighths);
 }

@@ -1,5 +1,5 @@
 //! Gates on the rows of a list, in pairs that differ in the bit at one place.
-ghost use Rattle.std.specs.Prelude.{◌≡◌, ◌<◌, ◌≤◌, ◌^◌, true, length, take};
+ghost use Rattle.std.specs.Prelude.{◌≡◌, ◌<◌, ◌≤◌, ◌^◌, true, length, swap, take};
 ghost use Rattle.state_model.specs.Row.{is_set, with_bit};
 ghost use Rattle.state_model.specs.Gate.{matrix};
 ghost use Rattle.state_model.specs.declared.Gate.TheVariants.{H, X, RotZ};
@@ -27,6 +27,17 @@ pub(crate) fn with_high_bit(rows: usize, row: usize, place: u8) -> usize
     row | (1 << place)
 }
 
+/// Two rows change places.
+pub(crate) fn exchange_two(list: &mut [Omega], one: usize, two: usize)
+    requires one { one < length list.old }
+    requires two { two < length list.old }
+    ensures { list.new ≡ swap list.old one two }
+{
+    let first = list[one];
+    list[one] = list[two];
+    list[two] = first;
+}
+
 /// Makes of each pair of rows their sum and their difference.
 fn mix(list: &mut [Omega], place: u8)
     requires place { HasPlace place (length list.old) }
@@ -52,9 +63,7 @@ fn exchange(list: &mut [Omega], place: u8)
     for row in 0..list.len() {
         if !has_bit(row, place) {
             let high = with_high_bit(list.len(), row, place);
-            let zero = list[row];
-            list[row] = list[high];
-            list[high] = zero;
+            exchange_two(list, row, high);
         }
     }
 }

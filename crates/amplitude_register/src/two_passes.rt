@@ -6,6 +6,7 @@ ghost use Rattle.state_model.specs.Amplitudes.{IsTwoGateList, IsTwoGateRow};
 ghost use Rattle.omega_ring.specs.Views.{omega_value, omega_values};
 ghost use Rattle.amplitude_register.specs.Multiples.{AllWithin, HasPlace};
 
+use crate::block::Block;
 use crate::controlled::has_both;
 use crate::fronts::rows_of;
 use crate::rows::has_bit;
@@ -139,39 +140,27 @@ fn negate_where_into_part(list: &mut [Omega], from: &[Omega], rows: usize, one: 
     negate_where_into(&mut list[..rows], &from[..rows], one, two);
 }
 
-/// As `exchange_where_into`, at the front of two buffers.
-pub(crate) fn exchange_where_front_into(
-    entries: &mut Vec<Omega>,
-    from: &Vec<Omega>,
-    rows: usize,
-    control: u8,
-    target: u8,
-)
-    requires to { rows ≤ length entries.old.items }
-    requires from { rows ≤ length from.now.items }
+/// As `exchange_where_into`, from a block to the front of a buffer.
+pub(crate) fn exchange_front_into(entries: &mut Vec<Omega>, from: &Block, control: u8, target: u8)
+    requires to { from.now.rows ≤ length entries.old.items }
+    requires from { from.now.rows ≤ length from.now.entries.items }
     requires low { control < 12 }
-    requires place { HasPlace target rows }
+    requires place { HasPlace target from.now.rows }
     ensures room { length entries.new.items ≡ length entries.old.items }
-    ensures list { IsTwoGateList Cnot control target (omega_values (take rows from.now.items)) (omega_values (take rows entries.new.items)) }
+    ensures list { IsTwoGateList Cnot control target (omega_values (take from.now.rows from.now.entries.items)) (omega_values (take from.now.rows entries.new.items)) }
 {
-    exchange_where_into_part(entries, from, rows, control, target);
+    exchange_where_into_part(entries, &from.entries, from.rows, control, target);
 }
 
-/// As `negate_where_into`, at the front of two buffers.
-pub(crate) fn negate_where_front_into(
-    entries: &mut Vec<Omega>,
-    from: &Vec<Omega>,
-    rows: usize,
-    one: u8,
-    two: u8,
-)
-    requires to { rows ≤ length entries.old.items }
-    requires from { rows ≤ length from.now.items }
+/// As `negate_where_into`, from a block to the front of a buffer.
+pub(crate) fn negate_front_into(entries: &mut Vec<Omega>, from: &Block, one: u8, two: u8)
+    requires to { from.now.rows ≤ length entries.old.items }
+    requires from { from.now.rows ≤ length from.now.entries.items }
     requires one { one < 12 }
     requires two { two < 12 }
-    requires range { AllWithin (2 ^ 61) (omega_values (take rows from.now.items)) }
+    requires range { AllWithin (2 ^ 61) (omega_values (take from.now.rows from.now.entries.items)) }
     ensures room { length entries.new.items ≡ length entries.old.items }
-    ensures list { IsTwoGateList Cphase one two (omega_values (take rows from.now.items)) (omega_values (take rows entries.new.items)) }
+    ensures list { IsTwoGateList Cphase one two (omega_values (take from.now.rows from.now.entries.items)) (omega_values (take from.now.rows entries.new.items)) }
 {
-    negate_where_into_part(entries, from, rows, one, two);
+    negate_where_into_part(entries, &from.entries, from.rows, one, two);
 }

@@ -1,27 +1,8 @@
 use Rattle.std.proofs.Common.{◌<◌, unsigned_abs, map, arith}
-use Rattle.amplitude_register.proofs.Sums.{sum_within, small_of}
 use Rattle.amplitude_register.proofs.Steps.{down_step, up_step}
 use Rattle.omega_ring.specs.Views.{omega_value, weight_value}
 use Rattle.state_model.proofs.RegisterSizes.{scaled_self, scaled_trans}
 use Rattle.amplitude_register.proofs.balancing.+balance.Goals as goal
-
-pub is_high-requires : goal.is_high-requires
-is_high-requires t c = small_of (map omega_value c.args.list.now) (weight_value c.args.weight) c.requires.weight c.requires.small
-
-pub lowered-requires : goal.lowered-requires
-lowered-requires t c = small_of (map omega_value c.args.list.now) (weight_value c.args.weight) c.requires.weight c.requires.small
-
-pub is_low-requires : goal.is_low-requires
-is_low-requires t c = small_of (map omega_value c.args.list.now) (weight_value c.args.weight) c.requires.weight c.requires.small
-
-pub raised-requires : goal.raised-requires
-raised-requires t c = small_of (map omega_value c.args.list.now) (weight_value c.args.weight) c.requires.weight c.requires.small
-
-pub lower-requires : goal.lower-requires
-lower-requires t c = sum_within (map omega_value c.args.list.now) (weight_value c.args.weight) c.requires.weight c.requires.small
-
-pub raise-requires : goal.raise-requires
-raise-requires t c = sum_within (map omega_value c.args.list.now) (weight_value c.args.weight) c.requires.weight c.requires.small
 
 pub balance-requires : goal.balance-requires
 balance-requires t c =

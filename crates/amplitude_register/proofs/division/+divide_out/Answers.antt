@@ -1,21 +1,11 @@
 use Rattle.std.proofs.Common.{◌<◌, ◌≤ℤ◌, pos, unsigned_abs, map, arith}
 use Rattle.std.proofs.lemmas.Int.{ints}
-use Rattle.amplitude_register.proofs.Sums.{sum_within, small_of}
 use Rattle.amplitude_register.proofs.Steps.{both_weights_even, both_step, lower_even, upper_even, lower_step, upper_step}
 use Rattle.state_model.specs.Divisors.{weight_norm}
 use Rattle.omega_ring.specs.Views.{omega_value, weight_value}
 use Rattle.state_model.proofs.Inequalities.{order}
 use Rattle.state_model.proofs.RegisterSizes.{scaled_self, scaled_trans}
 use Rattle.amplitude_register.proofs.division.+divide_out.Goals as goal
-
-pub all_divisible_by_both-requires : goal.all_divisible_by_both-requires
-all_divisible_by_both-requires t c = sum_within (map omega_value c.args.list.now) (weight_value c.args.weight) c.requires.weight c.requires.small
-
-pub divide_by_both-requires-clause-range : goal.divide_by_both-requires-clause-range
-divide_by_both-requires-clause-range t c = sum_within (map omega_value c.args.list.now) (weight_value c.args.weight) c.requires.weight c.requires.small
-
-pub over_both-requires-clause-small : goal.over_both-requires-clause-small
-over_both-requires-clause-small t c = small_of (map omega_value c.args.list.now) (weight_value c.args.weight) c.requires.weight c.requires.small
 
 pub over_both-requires-clause-x : goal.over_both-requires-clause-x
 over_both-requires-clause-x t c = (both_weights_even (map omega_value c.args.list.now) (map omega_value c.divide_by_both.new.list) (weight_value c.args.weight) c.requires.weight c.divide_by_both.ensures).0
@@ -40,23 +30,8 @@ returns-then-all_divisible_by_both-clause-scaled t c =
     let k = both_step (map omega_value c.args.list.now) (map omega_value c.divide_by_both.new.list) (weight_value c.args.weight) (weight_value c.over_both.result) c.requires.weight c.requires.nonzero c.divide_by_both.ensures c.over_both.ensures in
     scaled_trans (map omega_value c.divide_out.new.list) (map omega_value c.divide_by_both.new.list) (map omega_value c.args.list.now) c.divide_out.ensures.scaled k.scaled
 
-pub all_divisible-requires : goal.all_divisible-requires
-all_divisible-requires t c = sum_within (map omega_value c.args.list.now) (weight_value c.args.weight) c.requires.weight c.requires.small
-
-pub divide_by_conjugate-requires-clause-range : goal.divide_by_conjugate-requires-clause-range
-divide_by_conjugate-requires-clause-range t c = sum_within (map omega_value c.args.list.now) (weight_value c.args.weight) c.requires.weight c.requires.small
-
-pub divide_by_delta-requires-clause-range : goal.divide_by_delta-requires-clause-range
-divide_by_delta-requires-clause-range t c = sum_within (map omega_value c.args.list.now) (weight_value c.args.weight) c.requires.weight c.requires.small
-
-pub over_conjugate-requires-clause-small : goal.over_conjugate-requires-clause-small
-over_conjugate-requires-clause-small t c = small_of (map omega_value c.args.list.now) (weight_value c.args.weight) c.requires.weight c.requires.small
-
 pub over_conjugate-requires-clause-even : goal.over_conjugate-requires-clause-even
 over_conjugate-requires-clause-even t c = lower_even (map omega_value c.args.list.now) (map omega_value c.divide_by_conjugate.new.list) (weight_value c.args.weight) c.requires.weight c.divide_by_conjugate.ensures
-
-pub over_delta-requires-clause-small : goal.over_delta-requires-clause-small
-over_delta-requires-clause-small t c = small_of (map omega_value c.args.list.now) (weight_value c.args.weight) c.requires.weight c.requires.small
 
 pub over_delta-requires-clause-even : goal.over_delta-requires-clause-even
 over_delta-requires-clause-even t c = upper_even (map omega_value c.args.list.now) (map omega_value c.divide_by_delta.new.list) (weight_value c.args.weight) c.requires.weight c.divide_by_delta.ensures

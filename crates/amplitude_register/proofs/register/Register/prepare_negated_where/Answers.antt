@@ -5,23 +5,23 @@ use Rattle.amplitude_register.proofs.Fields.{block_room}
 use Rattle.amplitude_register.proofs.FromValues.{value_place, value_low, headed_fit, both_register, both_step, value_range}
 use Rattle.amplitude_register.proofs.register.Register.prepare_negated_where.Goals as goal
 
-pub negate_where_front_into-requires-clause-to : goal.negate_where_front_into-requires-clause-to
-negate_where_front_into-requires-clause-to c = let i = c.self.invariant in headed_fit c.self.inside.limit c.self.inside.value c.self.inside.next c.take_head.new.self i.value i.next c.take_head.ensures
+pub negate_front_into-requires-clause-to : goal.negate_front_into-requires-clause-to
+negate_front_into-requires-clause-to c = let i = c.self.invariant in headed_fit c.self.inside.limit c.self.inside.value c.self.inside.next c.take_head.new.self i.value i.next c.take_head.ensures
 
-pub negate_where_front_into-requires-clause-from : goal.negate_where_front_into-requires-clause-from
-negate_where_front_into-requires-clause-from c = let i = c.self.invariant in block_room c.self.inside.limit c.self.inside.value i.value
+pub negate_front_into-requires-clause-from : goal.negate_front_into-requires-clause-from
+negate_front_into-requires-clause-from c = let i = c.self.invariant in block_room c.self.inside.limit c.self.inside.value i.value
 
-pub negate_where_front_into-requires-clause-one : goal.negate_where_front_into-requires-clause-one
-negate_where_front_into-requires-clause-one c = let i = c.self.invariant in value_low c.args.self.now c.self.inside.limit c.self.inside.value (next_of c.self.inside.stage (amplitudes_of c.self.inside.next)) c.args.one i.most i.value c.self.view_is c.requires.one
+pub negate_front_into-requires-clause-one : goal.negate_front_into-requires-clause-one
+negate_front_into-requires-clause-one c = let i = c.self.invariant in value_low c.args.self.now c.self.inside.limit c.self.inside.value (next_of c.self.inside.stage (amplitudes_of c.self.inside.next)) c.args.one i.most i.value c.self.view_is c.requires.one
 
-pub negate_where_front_into-requires-clause-two : goal.negate_where_front_into-requires-clause-two
-negate_where_front_into-requires-clause-two c = let i = c.self.invariant in value_low c.args.self.now c.self.inside.limit c.self.inside.value (next_of c.self.inside.stage (amplitudes_of c.self.inside.next)) c.args.two i.most i.value c.self.view_is c.requires.two
+pub negate_front_into-requires-clause-two : goal.negate_front_into-requires-clause-two
+negate_front_into-requires-clause-two c = let i = c.self.invariant in value_low c.args.self.now c.self.inside.limit c.self.inside.value (next_of c.self.inside.stage (amplitudes_of c.self.inside.next)) c.args.two i.most i.value c.self.view_is c.requires.two
 
-pub negate_where_front_into-requires-clause-range : goal.negate_where_front_into-requires-clause-range
-negate_where_front_into-requires-clause-range c = let i = c.self.invariant in value_range c.self.inside.value i.kept
+pub negate_front_into-requires-clause-range : goal.negate_front_into-requires-clause-range
+negate_front_into-requires-clause-range c = let i = c.self.invariant in value_range c.self.inside.value i.kept
 
 pub invariant_of-self : goal.invariant_of-self
-invariant_of-self c = let i = c.self.invariant in both_register Cphase c.args.one c.args.two c.self.inside c.take_head.new.self record { qubits = c.self.inside.value.qubits; count = c.self.inside.value.count; rows = c.self.inside.value.rows; weight = c.take_head.new.self.weight; entries = c.negate_where_front_into.new.entries } i c.take_head.ensures c.requires.apart (value_place c.args.self.now c.self.inside.limit c.self.inside.value (next_of c.self.inside.stage (amplitudes_of c.self.inside.next)) c.args.two i.most i.value c.self.view_is c.requires.two) c.negate_where_front_into.ensures.room refl c.negate_where_front_into.ensures.list
+invariant_of-self c = let i = c.self.invariant in both_register Cphase c.args.one c.args.two c.self.inside c.take_head.new.self record { qubits = c.self.inside.value.qubits; count = c.self.inside.value.count; rows = c.self.inside.value.rows; weight = c.take_head.new.self.weight; entries = c.negate_front_into.new.entries } i c.take_head.ensures c.requires.apart (value_place c.args.self.now c.self.inside.limit c.self.inside.value (next_of c.self.inside.stage (amplitudes_of c.self.inside.next)) c.args.two i.most i.value c.self.view_is c.requires.two) c.negate_front_into.ensures.room refl c.negate_front_into.ensures.list
 
 pub returns : goal.returns
-returns c = let i = c.self.invariant in both_step Cphase c.args.one c.args.two c.args.self.now c.self.inside c.take_head.new.self record { qubits = c.self.inside.value.qubits; count = c.self.inside.value.count; rows = c.self.inside.value.rows; weight = c.take_head.new.self.weight; entries = c.negate_where_front_into.new.entries } c.self.view_is i c.take_head.ensures c.requires.apart (value_place c.args.self.now c.self.inside.limit c.self.inside.value (next_of c.self.inside.stage (amplitudes_of c.self.inside.next)) c.args.two i.most i.value c.self.view_is c.requires.two) c.negate_where_front_into.ensures.room c.negate_where_front_into.ensures.list
+returns c = let i = c.self.invariant in both_step Cphase c.args.one c.args.two c.args.self.now c.self.inside c.take_head.new.self record { qubits = c.self.inside.value.qubits; count = c.self.inside.value.count; rows = c.self.inside.value.rows; weight = c.take_head.new.self.weight; entries = c.negate_front_into.new.entries } c.self.view_is i c.take_head.ensures c.requires.apart (value_place c.args.self.now c.self.inside.limit c.self.inside.value (next_of c.self.inside.stage (amplitudes_of c.self.inside.next)) c.args.two i.most i.value c.self.view_is c.requires.two) c.negate_front_into.ensures.room c.negate_front_into.ensures.list
