@@ -7,13 +7,15 @@ use Rattle.state_model.specs.declared.Two.{Two}
 use Rattle.omega_ring.specs.Views.{omega_value, weight_value}
 use Rattle.omega_ring.specs.declared.coefficients.Omega.{Omega}
 use Rattle.amplitude_register.specs.States.{RegisterState, Next, empty, draft, prepared, IsPrepared, IsPresent, IsKept, IsTwoGateStep, next_value, with_row}
-use Rattle.amplitude_register.specs.Held.{IsBlock, IsStage, next_of, amplitudes_of}
+use Rattle.amplitude_register.specs.Held.{IsBlock, IsStage, IsRegister, next_of, amplitudes_of, state_of}
 use Rattle.amplitude_register.specs.declared.block.Block.{Block}
 use Rattle.amplitude_register.specs.declared.block.Stage.{Stage}
 use Rattle.amplitude_register.specs.declared.block.Stage.TheVariants.{Empty, Open, Weighed, Prepared}
+use Rattle.amplitude_register.specs.declared.register.Register.TheInside.{Inside}
 use Rattle.omega_ring.proofs.Entries.{zero_omega}
 use Rattle.amplitude_register.proofs.Fields.{place_below, state, front, ready_state, ready_value, front_set, front_row, below_front, list_of, list_rows, same_front}
 use Rattle.amplitude_register.proofs.ChangedRows.{negated_row, swapped_rows, negated_total, swapped_total, negated_kept, swapped_kept, same_kept}
+use Rattle.amplitude_register.proofs.Placed.{next_placed, same_block}
 use Rattle.state_model.proofs.TwoGateLists.{two_total, two_reduced}
 
 pub prepared_stage : (o : RegisterState) (l : ℕ) (v : Amplitudes) (s : Stage) (a : Amplitudes) → state l v (next_of s a) ≡ o → IsPrepared o.next → s ≡ Prepared
@@ -109,3 +111,18 @@ two_step k i j o l v s qs xs ys e h list weight =
 
 pub two_stage : (k : Two) (i j : ℕ) (s : Stage) (b c : Block) → i ≢ j → s ≡ Prepared → c.weight ≡ b.weight → IsTwoGateList k i j (list_of b) (list_of c) → total_weight (list_of c) ≡ total_weight (list_of b) → IsStage s b → IsStage s c
 two_stage k i j s b c apart e w list weight h = changed_stage s b c e w weight (same_kept (amplitudes_of b) (amplitudes_of c) weight (two_reduced k i j (list_of b) (list_of c) apart list)) h
+
+-- the register after a gate of two qubits on the rows of its second block
+pub two_register : (k : Two) (i j : ℕ) (o : RegisterState) (r : Inside) (c : Block) → state_of r ≡ o → IsRegister r → IsPrepared o.next → i ≢ j → j < length (next_value o.next).qubits → c.rows ≡ r.next.rows → c.count ≡ r.next.count → c.qubits ≡ r.next.qubits → c.weight ≡ r.next.weight → length c.entries.items ≡ length r.next.entries.items
+    → IsTwoGateList k i j (list_of r.next) (map omega_value (take r.next.rows c.entries.items)) → IsRegister record { limit = r.limit; value = r.value; next = c; stage = r.stage }
+two_register k i j o r c v h p apart l rows count qubits w room list =
+    let place = ready_place o r.limit (amplitudes_of r.value) r.stage r.next j h.most h.next v p l in
+    let same : list_of c ≡ map omega_value (take r.next.rows c.entries.items) = ap (λ (n : ℕ). map omega_value (take n c.entries.items)) rows in
+    next_placed r r.stage c h (same_block r.limit r.next c rows count qubits room h.next)
+    (two_stage k i j r.stage r.next c apart (prepared_stage o r.limit (amplitudes_of r.value) r.stage (amplitudes_of r.next) v p) w (subst (IsTwoGateList k i j (list_of r.next)) (sym same) list) (ap total_weight same ∙ two_stepped k i j r.limit r.next c.entries.items apart h.next place room list) h.stage)
+
+pub two_result : (k : Two) (i j : ℕ) (o : RegisterState) (r : Inside) (c : Block) → state_of r ≡ o → IsRegister r → IsPrepared o.next → i ≢ j → j < length (next_value o.next).qubits → length c.entries.items ≡ length r.next.entries.items
+    → IsTwoGateList k i j (list_of r.next) (map omega_value (take r.next.rows c.entries.items)) → IsTwoGateStep k i j o (state r.limit (amplitudes_of r.value) (next_of r.stage (front (take r.next.count r.next.qubits) c.entries.items r.next.rows)))
+two_result k i j o r c v h p apart l room list =
+    let place = ready_place o r.limit (amplitudes_of r.value) r.stage r.next j h.most h.next v p l in
+    two_step k i j o r.limit (amplitudes_of r.value) r.stage (take r.next.count r.next.qubits) (list_of r.next) (map omega_value (take r.next.rows c.entries.items)) v p list (two_stepped k i j r.limit r.next c.entries.items apart h.next place room list)

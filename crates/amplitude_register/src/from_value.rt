@@ -1,4 +1,6 @@
 //! Next values that a gate makes of a register's value in one pass.
+#![tactic(auto, using(crate::proofs::Fields::block_room, crate::proofs::FromValues::headed_fit))]
+
 ghost use Rattle.std.specs.Prelude.{◌≡◌, ◌≢◌, ◌<◌, length};
 ghost use Rattle.state_model.specs.Gate.{matrix};
 ghost use Rattle.state_model.specs.declared.Gate.TheVariants.{H, RotZ};

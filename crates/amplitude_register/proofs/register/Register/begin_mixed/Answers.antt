@@ -1,16 +1,10 @@
 use Rattle.amplitude_register.specs.Held.{amplitudes_of, next_of}
-use Rattle.amplitude_register.proofs.Fields.{block_room, has_place}
-use Rattle.amplitude_register.proofs.FromValues.{value_place, headed_fit, value_range, value_weight, mixed_register, mixed_step}
+use Rattle.amplitude_register.proofs.Fields.{has_place}
+use Rattle.amplitude_register.proofs.FromValues.{value_place, value_range, value_weight, mixed_register, mixed_step}
 use Rattle.amplitude_register.proofs.register.Register.begin_mixed.Goals as goal
 
 pub doubled-self-inside-requires : goal.doubled-self-inside-requires
 doubled-self-inside-requires c = let i = c.self.invariant in value_weight c.self.inside.value i.weighed i.kept
-
-pub mix_front_into-requires-clause-to : goal.mix_front_into-requires-clause-to
-mix_front_into-requires-clause-to c = let i = c.self.invariant in headed_fit c.self.inside.limit c.self.inside.value c.self.inside.next c.take_head.new.self i.value i.next c.take_head.ensures
-
-pub mix_front_into-requires-clause-from : goal.mix_front_into-requires-clause-from
-mix_front_into-requires-clause-from c = let i = c.self.invariant in block_room c.self.inside.limit c.self.inside.value i.value
 
 pub mix_front_into-requires-clause-place : goal.mix_front_into-requires-clause-place
 mix_front_into-requires-clause-place c = let i = c.self.invariant in has_place c.self.inside.limit c.args.place c.self.inside.value i.most i.value (value_place c.args.self.now c.self.inside.limit c.self.inside.value (next_of c.self.inside.stage (amplitudes_of c.self.inside.next)) c.args.place i.most i.value c.self.view_is c.requires)

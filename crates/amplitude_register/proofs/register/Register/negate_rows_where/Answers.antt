@@ -1,10 +1,8 @@
-use Rattle.std.proofs.Common.{map, take, refl}
-use Rattle.amplitude_register.proofs.Fields.{block_room, kept_range, list_of}
-use Rattle.amplitude_register.proofs.PreparedRows.{prepared_stage, ready_place, ready_low, two_step, two_stage, two_stepped}
+use Rattle.std.proofs.Common.{refl}
+use Rattle.amplitude_register.proofs.Fields.{block_room, kept_range}
+use Rattle.amplitude_register.proofs.PreparedRows.{ready_low, two_register, two_result}
 use Rattle.amplitude_register.specs.Held.{amplitudes_of}
 use Rattle.state_model.specs.declared.Two.TheVariants.{Cphase}
-use Rattle.omega_ring.specs.Views.{omega_value}
-use Rattle.amplitude_register.proofs.Placed.{next_placed, same_block}
 use Rattle.amplitude_register.proofs.register.Register.negate_rows_where.Goals as goal
 
 pub negate_where_front-requires-clause-rows : goal.negate_where_front-requires-clause-rows
@@ -20,9 +18,7 @@ pub negate_where_front-requires-clause-range : goal.negate_where_front-requires-
 negate_where_front-requires-clause-range c = let i = c.self.invariant in λ row. kept_range c.args.self.now c.self.inside.limit (amplitudes_of c.self.inside.value) c.self.inside.stage c.self.inside.next row c.self.view_is c.requires.prepared i.stage
 
 pub invariant_of-self : goal.invariant_of-self
-invariant_of-self c = let i = c.self.invariant in next_placed c.self.inside _ _ i (same_block _ _ _ refl refl refl c.negate_where_front.ensures.room i.next) (two_stage Cphase c.args.one c.args.two c.self.inside.stage c.self.inside.next record { qubits = c.self.inside.next.qubits; count = c.self.inside.next.count; rows = c.self.inside.next.rows; weight = c.self.inside.next.weight; entries = c.negate_where_front.new.entries } c.requires.apart (prepared_stage c.args.self.now c.self.inside.limit (amplitudes_of c.self.inside.value) c.self.inside.stage (amplitudes_of c.self.inside.next) c.self.view_is c.requires.prepared) refl c.negate_where_front.ensures.list (two_stepped Cphase c.args.one c.args.two c.self.inside.limit c.self.inside.next c.negate_where_front.new.entries.items c.requires.apart i.next (ready_place c.args.self.now c.self.inside.limit (amplitudes_of c.self.inside.value) c.self.inside.stage c.self.inside.next c.args.two i.most i.next c.self.view_is c.requires.prepared c.requires.two) c.negate_where_front.ensures.room c.negate_where_front.ensures.list) i.stage)
+invariant_of-self c = two_register Cphase c.args.one c.args.two c.args.self.now c.self.inside record { qubits = c.self.inside.next.qubits; count = c.self.inside.next.count; rows = c.self.inside.next.rows; weight = c.self.inside.next.weight; entries = c.negate_where_front.new.entries } c.self.view_is c.self.invariant c.requires.prepared c.requires.apart c.requires.two refl refl refl refl c.negate_where_front.ensures.room c.negate_where_front.ensures.list
 
 pub returns : goal.returns
-returns c =
-    let i = c.self.invariant in
-    two_step Cphase c.args.one c.args.two c.args.self.now c.self.inside.limit (amplitudes_of c.self.inside.value) c.self.inside.stage (take c.self.inside.next.count c.self.inside.next.qubits) (list_of c.self.inside.next) (map omega_value (take c.self.inside.next.rows c.negate_where_front.new.entries.items)) c.self.view_is c.requires.prepared c.negate_where_front.ensures.list (two_stepped Cphase c.args.one c.args.two c.self.inside.limit c.self.inside.next c.negate_where_front.new.entries.items c.requires.apart i.next (ready_place c.args.self.now c.self.inside.limit (amplitudes_of c.self.inside.value) c.self.inside.stage c.self.inside.next c.args.two i.most i.next c.self.view_is c.requires.prepared c.requires.two) c.negate_where_front.ensures.room c.negate_where_front.ensures.list)
+returns c = two_result Cphase c.args.one c.args.two c.args.self.now c.self.inside record { qubits = c.self.inside.next.qubits; count = c.self.inside.next.count; rows = c.self.inside.next.rows; weight = c.self.inside.next.weight; entries = c.negate_where_front.new.entries } c.self.view_is c.self.invariant c.requires.prepared c.requires.apart c.requires.two c.negate_where_front.ensures.room c.negate_where_front.ensures.list

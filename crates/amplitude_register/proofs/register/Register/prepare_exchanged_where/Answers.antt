@@ -1,15 +1,9 @@
 use Rattle.std.proofs.Common.{refl}
 use Rattle.state_model.specs.declared.Two.TheVariants.{Cnot}
 use Rattle.amplitude_register.specs.Held.{amplitudes_of, next_of}
-use Rattle.amplitude_register.proofs.Fields.{block_room, has_place}
-use Rattle.amplitude_register.proofs.FromValues.{value_place, value_low, headed_fit, both_register, both_step}
+use Rattle.amplitude_register.proofs.Fields.{has_place}
+use Rattle.amplitude_register.proofs.FromValues.{value_place, value_low, both_register, both_step}
 use Rattle.amplitude_register.proofs.register.Register.prepare_exchanged_where.Goals as goal
-
-pub exchange_front_into-requires-clause-to : goal.exchange_front_into-requires-clause-to
-exchange_front_into-requires-clause-to c = let i = c.self.invariant in headed_fit c.self.inside.limit c.self.inside.value c.self.inside.next c.take_head.new.self i.value i.next c.take_head.ensures
-
-pub exchange_front_into-requires-clause-from : goal.exchange_front_into-requires-clause-from
-exchange_front_into-requires-clause-from c = let i = c.self.invariant in block_room c.self.inside.limit c.self.inside.value i.value
 
 pub exchange_front_into-requires-clause-low : goal.exchange_front_into-requires-clause-low
 exchange_front_into-requires-clause-low c = let i = c.self.invariant in value_low c.args.self.now c.self.inside.limit c.self.inside.value (next_of c.self.inside.stage (amplitudes_of c.self.inside.next)) c.args.control i.most i.value c.self.view_is c.requires.control

@@ -1,15 +1,8 @@
 use Rattle.std.proofs.Common.{refl}
 use Rattle.state_model.specs.declared.Two.TheVariants.{Cphase}
 use Rattle.amplitude_register.specs.Held.{amplitudes_of, next_of}
-use Rattle.amplitude_register.proofs.Fields.{block_room}
-use Rattle.amplitude_register.proofs.FromValues.{value_place, value_low, headed_fit, both_register, both_step, value_range}
+use Rattle.amplitude_register.proofs.FromValues.{value_place, value_low, both_register, both_step, value_range}
 use Rattle.amplitude_register.proofs.register.Register.prepare_negated_where.Goals as goal
-
-pub negate_front_into-requires-clause-to : goal.negate_front_into-requires-clause-to
-negate_front_into-requires-clause-to c = let i = c.self.invariant in headed_fit c.self.inside.limit c.self.inside.value c.self.inside.next c.take_head.new.self i.value i.next c.take_head.ensures
-
-pub negate_front_into-requires-clause-from : goal.negate_front_into-requires-clause-from
-negate_front_into-requires-clause-from c = let i = c.self.invariant in block_room c.self.inside.limit c.self.inside.value i.value
 
 pub negate_front_into-requires-clause-one : goal.negate_front_into-requires-clause-one
 negate_front_into-requires-clause-one c = let i = c.self.invariant in value_low c.args.self.now c.self.inside.limit c.self.inside.value (next_of c.self.inside.stage (amplitudes_of c.self.inside.next)) c.args.one i.most i.value c.self.view_is c.requires.one

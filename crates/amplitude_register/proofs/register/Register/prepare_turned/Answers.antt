@@ -2,15 +2,9 @@ use Rattle.std.proofs.Common.{refl}
 use Rattle.state_model.specs.declared.Gate.TheVariants.{RotZ}
 use Rattle.state_model.proofs.GateLists.{turned_weight}
 use Rattle.amplitude_register.specs.Held.{amplitudes_of, next_of}
-use Rattle.amplitude_register.proofs.Fields.{block_room, has_place, turned_scale}
-use Rattle.amplitude_register.proofs.FromValues.{value_place, headed_fit, value_range, turned_register, turned_step}
+use Rattle.amplitude_register.proofs.Fields.{has_place, turned_scale}
+use Rattle.amplitude_register.proofs.FromValues.{value_place, value_range, turned_register, turned_step}
 use Rattle.amplitude_register.proofs.register.Register.prepare_turned.Goals as goal
-
-pub turn_front_into-requires-clause-to : goal.turn_front_into-requires-clause-to
-turn_front_into-requires-clause-to c = let i = c.self.invariant in headed_fit c.self.inside.limit c.self.inside.value c.self.inside.next c.take_head.new.self i.value i.next c.take_head.ensures
-
-pub turn_front_into-requires-clause-from : goal.turn_front_into-requires-clause-from
-turn_front_into-requires-clause-from c = let i = c.self.invariant in block_room c.self.inside.limit c.self.inside.value i.value
 
 pub turn_front_into-requires-clause-place : goal.turn_front_into-requires-clause-place
 turn_front_into-requires-clause-place c = let i = c.self.invariant in has_place c.self.inside.limit c.args.place c.self.inside.value i.most i.value (value_place c.args.self.now c.self.inside.limit c.self.inside.value (next_of c.self.inside.stage (amplitudes_of c.self.inside.next)) c.args.place i.most i.value c.self.view_is c.requires.place)
