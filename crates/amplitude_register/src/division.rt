@@ -1,5 +1,7 @@
 //! Division of all entries by 1 - w^2 where that goes, and then by its factor 1 - w or 1 + w, by that which does not
 //! raise the sum of squares.
+#![tactic(auto, using(crate::proofs::Loops::each_entry))]
+
 ghost use Rattle.std.specs.Prelude.{◌≡◌, ◌^◌, ◌≤ℤ◌, ◌<ℤ◌, pos, IsTrue, ◌↔◌};
 ghost use Rattle.state_model.specs.Divisors.{delta, delta_conjugate, both_deltas};
 ghost use Rattle.state_model.specs.CoefficientList.{DividesAll, IsScaled, IsNonzero, total_weight};
@@ -36,7 +38,6 @@ pub(crate) fn all_divisible_by_both(list: &[Omega]) -> bool
 }
 
 /// Each entry over 1 - w^2.
-#[tactic(auto, using(crate::proofs::Loops::each_entry))]
 pub(crate) fn divide_by_both(list: &mut [Omega])
     requires range { AllWithin (2 ^ 61) (omega_values list.old) }
     requires divides { DividesAll both_deltas (omega_values list.old) }
@@ -48,7 +49,6 @@ pub(crate) fn divide_by_both(list: &mut [Omega])
 }
 
 /// Each entry over 1 - w.
-#[tactic(auto, using(crate::proofs::Loops::each_entry))]
 pub(crate) fn divide_by_delta(list: &mut [Omega])
     requires range { AllWithin (2 ^ 61) (omega_values list.old) }
     requires divides { DividesAll delta (omega_values list.old) }
@@ -60,7 +60,6 @@ pub(crate) fn divide_by_delta(list: &mut [Omega])
 }
 
 /// Each entry over 1 + w.
-#[tactic(auto, using(crate::proofs::Loops::each_entry))]
 pub(crate) fn divide_by_conjugate(list: &mut [Omega])
     requires range { AllWithin (2 ^ 61) (omega_values list.old) }
     requires divides { DividesAll delta (omega_values list.old) }

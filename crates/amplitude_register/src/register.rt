@@ -8,7 +8,7 @@ ghost use Rattle.state_model.specs.Gate.{matrix};
 ghost use Rattle.state_model.specs.declared.Gate.TheVariants.{H, X, RotZ};
 ghost use Rattle.state_model.specs.declared.Two.TheVariants.{Cnot, Cphase};
 ghost use Rattle.state_model.specs.Amplitudes.{vector_of, AreDistinct, HasRows};
-ghost use Rattle.omega_ring.specs.Views.{omega_value, weight_value};
+ghost use Rattle.omega_ring.specs.Views.{omega_value, omega_values, weight_value};
 ghost use Rattle.omega_ring.specs.Range.{CoordinatesBelow};
 ghost use Rattle.amplitude_register.specs.Multiples.{IsReducedFrom};
 ghost use Rattle.amplitude_register.specs.States.{RegisterState, empty, draft, prepared, no_qubit, basis_state, pair_state, zeros, IsDraft, IsPrepared, IsPresent, IsNextKept, next_value, prepared_qubits, with_list, with_row, IsKept, IsGateStep, IsTwoGateStep, IsSealed, IsRefused, CanReduce};
@@ -98,6 +98,13 @@ impl Register {
         ensures { omega_value result ≡ at self.now.value.list row }
     {
         self.value.entries[row as usize]
+    }
+
+    /// The coefficients of all rows.
+    pub fn rows(&self) -> &[Omega]
+        ensures { omega_values result.now ≡ self.now.value.list }
+    {
+        &self.value.entries[..self.value.rows]
     }
 
     /// The x of the value's weight, which is the least of all whole vectors that are the same state.

@@ -5,14 +5,7 @@ use omega_ring::{Omega, Weight, coefficient};
 
 const ZERO: Omega = coefficient!(0, 0, 0, 0);
 
-/// The two coefficients of a register of one qubit.
-fn rows(reg: &Register) -> (Omega, Omega) {
-    reg.facts();
-    if reg.qubits().len() != 1 {
-        return (ZERO, ZERO);
-    }
-    (reg.coefficient(0), reg.coefficient(1))
-}
+const ONE: Omega = coefficient!(1, 0, 0, 0);
 
 #[test]
 fn half_of_a_pair_has_a_one(rt: HostRuntime) {
@@ -32,48 +25,29 @@ fn a_pair_leaves_a_qubit_in_the_measured_state(rt: HostRuntime) {
     assert_eq!(rt; reg.place_of(9), Some(0));
     assert_eq!(rt; reg.place_of(4), None);
     assert_eq!(rt; reg.size(), 1);
-    let (zero, one) = rows(&reg);
-    assert!(rt; zero == ZERO);
-    assert!(rt; one != ZERO);
+    assert_eq!(rt; reg.rows(), [ZERO, ONE].as_slice());
 }
 
 #[test]
-fn a_turn_between_hadamards_weighs_four_and_two(rt: HostRuntime) {
-    let mut reg = Register::new(rt.alloc(), 1).expect(&rt, "memory");
-    let zero = coefficient!(0, 1, 1, 1);
-    let one = coefficient!(1, 0, 0, 0);
-    reg.begin(&[3]);
-    reg.put(0, zero);
-    reg.put(1, one);
-    let sealed = reg.seal(Reduce::Full);
-    assert!(rt; sealed.is_ok());
-    if sealed.is_ok() {
-        reg.flip();
-        if reg.qubits().len() == 1 {
-            let split = weights(&reg, 0);
-            assert_eq!(rt; split.one, Weight { x: 1, y: 0 });
-            assert_eq!(rt; split.whole, Weight { x: 4, y: 2 });
-        }
-    }
-}
-
-#[test]
-fn a_quarter_stays_a_quarter_when_balanced(rt: HostRuntime) {
-    // the draft weighs (12, 8) and its second row (3, 2)
-    let mut reg = Register::new(rt.alloc(), 1).expect(&rt, "memory");
+fn weights_may_be_irrational_until_they_are_balanced(rt: HostRuntime) {
+    let sum = coefficient!(0, 1, 1, 1);
     let zero = coefficient!(-2, 0, 1, 2);
     let one = coefficient!(-1, -1, 0, 1);
-    reg.begin(&[3]);
-    reg.put(0, zero);
-    reg.put(1, one);
-    let sealed = reg.seal(Reduce::Full);
-    assert!(rt; sealed.is_ok());
-    if sealed.is_ok() {
-        reg.flip();
-        if reg.qubits().len() == 1 {
-            let split = weights(&reg, 0);
-            assert_eq!(rt; split.one, Weight { x: 1, y: 0 });
-            assert_eq!(rt; split.whole, Weight { x: 4, y: 0 });
+    // after H, T and H; and a quarter, whose draft weighs (12, 8) and its second row (3, 2)
+    for (zero, one, whole) in [(sum, ONE, 2), (zero, one, 0)] {
+        let mut reg = Register::new(rt.alloc(), 1).expect(&rt, "memory");
+        reg.begin(&[3]);
+        reg.put(0, zero);
+        reg.put(1, one);
+        let sealed = reg.seal(Reduce::Full);
+        assert!(rt; sealed.is_ok());
+        if sealed.is_ok() {
+            reg.flip();
+            if reg.qubits().len() == 1 {
+                let split = weights(&reg, 0);
+                assert_eq!(rt; split.one, Weight { x: 1, y: 0 });
+                assert_eq!(rt; split.whole, Weight { x: 4, y: whole });
+            }
         }
     }
 }
