@@ -143,10 +143,21 @@ unfolding matrix
 t_matrix = refl
 
 -- what a sealed draft answers
-pub sealed_answer : {A E : Type 0} (size : E → ℤ) (g h : Gate) (s place : ℕ) (old mid new : RegisterState) (r : Result A E) → g ≡ h → HasRows old.value → place < length old.value.qubits → IsMade drafting (matrix h) s place old mid
+pub sealed_answer : {A E : Type 0} (size : E → ℤ) (g : Gate) (s place : ℕ) (old mid new : RegisterState) (r : Result A E) → HasRows old.value → place < length old.value.qubits → IsMade drafting (matrix g) s place old mid
     → MatchResult r (λ (x : A). IsSealed mid new) (λ (e : E). IsRefused mid new (size e)) → MatchResult r (λ (x : A). IsApplied g place old new) (λ (e : E). IsTooLarge g place old new (size e))
-sealed_answer size g h s place old mid new (Ok x) is rows l made seal = subst (λ (t : Gate). IsApplied t place old new) (sym is) (sealed_applied h s place old mid new rows l made seal)
-sealed_answer size g h s place old mid new (Err e) is rows l made seal = subst (λ (t : Gate). IsTooLarge t place old new (size e)) (sym is) (refused_large h s place old mid new (size e) rows l made seal)
+sealed_answer size g s place old mid new (Ok x) rows l made seal = sealed_applied g s place old mid new rows l made seal
+sealed_answer size g s place old mid new (Err e) rows l made seal = refused_large g s place old mid new (size e) rows l made seal
+
+-- ---- gates that add rows up
+pub mixed_scale : (g : Gate) → (g ≡ H) ⊎ ((g ≡ K) ⊎ (((k : ℕ) × (g ≡ RotX k)) ⊎ ((k : ℕ) × (g ≡ RotY k)))) → scale_of g ≢ 1
+unfolding scale_of
+mixed_scale g (inl e) s = absurd (let f : 2 ≡ 1 = sym (ap scale_of e) ∙ s in omega arith)
+mixed_scale g (inr (inl e)) s = absurd (let f : 2 ≡ 1 = sym (ap scale_of e) ∙ s in omega arith)
+mixed_scale g (inr (inr (inl e))) s = absurd (let f : 4 ≡ 1 = sym (ap scale_of (e.1)) ∙ s in omega arith)
+mixed_scale g (inr (inr (inr e))) s = absurd (let f : 4 ≡ 1 = sym (ap scale_of (e.1)) ∙ s in omega arith)
+
+pub made_scaled : (g h : Gate) (s place : ℕ) (old new : RegisterState) → g ≡ h → scale_of h ≡ s → IsMade drafting (matrix h) s place old new → IsMade drafting (matrix g) (scale_of g) place old new
+made_scaled g h s place old new is scale made = subst (λ (t : Gate). IsMade drafting (matrix t) (scale_of t) place old new) (sym is) (subst (λ (n : ℕ). IsMade drafting (matrix h) n place old new) (sym scale) made)
 
 -- ---- gates that only move, negate or turn rows
 pub moved_scale : (g : Gate) → (g ≡ I) ⊎ ((g ≡ X) ⊎ ((g ≡ Y) ⊎ ((g ≡ Z) ⊎ ((g ≡ T) ⊎ ((k : ℕ) × (g ≡ RotZ k)))))) → scale_of g ≡ 1
@@ -160,9 +171,5 @@ moved_scale g (inr (inr (inr (inr (inr h))))) = ap scale_of (h.1)
 
 -- a copy is what the one of them that changes nothing makes
 pub copied : (g : Gate) (place : ℕ) (old new : RegisterState) → (g ≡ I) ⊎ ((g ≡ H) ⊎ ((g ≡ K) ⊎ (((k : ℕ) × (g ≡ RotX k)) ⊎ ((k : ℕ) × (g ≡ RotY k))))) → IsApplied I place old new → scale_of g ≡ 1 → IsApplied g place old new
-unfolding scale_of
 copied g place old new (inl e) h s = subst (λ (t : Gate). IsApplied t place old new) (sym e) h
-copied g place old new (inr (inl e)) h s = absurd (let f : 2 ≡ 1 = sym (ap scale_of e) ∙ s in omega arith)
-copied g place old new (inr (inr (inl e))) h s = absurd (let f : 2 ≡ 1 = sym (ap scale_of e) ∙ s in omega arith)
-copied g place old new (inr (inr (inr (inl e)))) h s = absurd (let f : 4 ≡ 1 = sym (ap scale_of (e.1)) ∙ s in omega arith)
-copied g place old new (inr (inr (inr (inr e)))) h s = absurd (let f : 4 ≡ 1 = sym (ap scale_of (e.1)) ∙ s in omega arith)
+copied g place old new (inr mixed) h s = absurd (mixed_scale g mixed s)

@@ -1,10 +1,11 @@
 //! Gates by steps on the rows of a register: rows are exchanged, turned by eighths, or made into their sum and
 //! difference. The other gates are such steps one after another, and are reduced and balanced once at the end.
-ghost use Rattle.std.specs.Prelude.{◌≡◌, ◌<◌, length, MatchResult};
+ghost use Rattle.std.specs.Prelude.{◌≡◌, ◌≢◌, ◌<◌, ◌<ℤ◌, ◌^◌, pos, length, MatchResult};
+ghost use Rattle.state_model.specs.CoefficientList.{total_weight};
 ghost use Rattle.state_model.specs.Gate.{matrix};
 ghost use Rattle.state_model.specs.Undo.{product, scale_of};
 ghost use Rattle.state_model.specs.declared.Gate.TheVariants.{X, H, K, RotX, RotY, RotZ};
-ghost use Rattle.amplitude_register.specs.States.{IsNextKept};
+ghost use Rattle.amplitude_register.specs.States.{IsDraft, IsNextKept, next_value};
 ghost use Rattle.gate_kernels.specs.Gates.{HasEighths, IsApplied, IsTooLarge, IsMade, drafting, preparing};
 
 use amplitude_register::{Reduce, Register, TooLarge};
@@ -31,26 +32,32 @@ pub fn prepare_one(reg: &mut Register, place: u8, gate: Gate) -> Result<(), TooL
 {
     reg.facts();
     match gate {
-        Gate::H => {
-            mix(reg, place);
-            reg.seal(Reduce::Delta)
-        }
-        Gate::K => {
-            mix_turned(reg, place);
-            reg.seal(Reduce::Delta)
-        }
-        Gate::RotX(eighths) => {
-            turn_mixed(reg, place, eighths);
-            reg.seal(Reduce::Delta)
-        }
-        Gate::RotY(eighths) => {
-            turn_mixed_turned(reg, place, eighths);
+        Gate::H | Gate::K | Gate::RotX(_) | Gate::RotY(_) => {
+            draft_mixed(reg, place, gate);
             reg.seal(Reduce::Delta)
         }
         Gate::I | Gate::X | Gate::Y | Gate::Z | Gate::T | Gate::RotZ(_) => {
             prepare_moved(reg, place, gate);
             Ok(())
         }
+    }
+}
+
+/// Drafts what a gate makes that adds rows up; at the others a copy of the value.
+fn draft_mixed(reg: &mut Register, place: u8, gate: Gate)
+    requires place { place < length reg.old.value.qubits }
+    requires eighths { HasEighths gate }
+    ensures made { scale_of gate ≢ 1 → IsMade drafting (matrix gate) (scale_of gate) place reg.old reg.new }
+    ensures open { IsDraft reg.new.next }
+    ensures small { (total_weight (next_value reg.new.next).list).x <ℤ pos (2 ^ 122) }
+{
+    reg.facts();
+    match gate {
+        Gate::H => mix(reg, place),
+        Gate::K => mix_turned(reg, place),
+        Gate::RotX(eighths) => turn_mixed(reg, place, eighths),
+        Gate::RotY(eighths) => turn_mixed_turned(reg, place, eighths),
+        Gate::I | Gate::X | Gate::Y | Gate::Z | Gate::T | Gate::RotZ(_) => reg.begin_same(),
     }
 }
 
