@@ -13,5 +13,4 @@ pub(crate) fn bounds(list: &[Omega], weight: Weight)
     requires small { weight.x <ℤ pos (2 ^ 122) }
     ensures parts { PartsBelow (2 ^ 122) (weight_value weight) }
     ensures range { AllWithin (2 ^ 61) (omega_values list.now) }
-{
-}
+{}
