@@ -22,60 +22,66 @@ fn messages_are_read(rt: HostRuntime) -> Result<(), Fail> {
     let ScriptRead::Read(messages) = read_script(rt.alloc(), text.as_bytes()) else {
         return Err(Fail::from("refused"));
     };
-    assert_eq!(rt; messages.len(), 3);
-    assert_eq!(rt; messages[0].head, Head::Commands { app: 7 });
-    let list = &messages[0].list;
-    assert_eq!(rt; list.len(), 3);
-    assert_eq!(rt;
-        (list[0].instr, list[0].qubit, list[0].notify),
-        (Instr::New, 0, false)
-    );
-    assert_eq!(rt;
-        (list[1].instr, list[1].qubit, list[1].notify),
-        (Instr::X, 0, false)
-    );
-    assert_eq!(rt;
-        (list[2].instr, list[2].qubit, list[2].notify),
-        (Instr::Measure, 0, true)
-    );
-    assert_eq!(rt; messages[1].head, Head::Hello { app: 7 });
-    let factory = Head::Factory {
-        app: 7,
-        repeats: 3,
-        notify: true,
-    };
-    assert_eq!(rt; messages[2].head, factory);
     let remote = Remote {
         app: 2,
         port: 8822,
         node: 0x7f00_0001,
     };
-    assert_eq!(rt; messages[2].list.len(), 1);
-    assert_eq!(rt; messages[2].list[0].instr, Instr::Epr(remote));
-    assert_eq!(rt; messages[2].list[0].qubit, 3);
-    assert!(rt; !messages[2].list[0].notify);
+    let commands: [&[(Instr, u16, bool)]; 3] = [
+        &[
+            (Instr::New, 0, false),
+            (Instr::X, 0, false),
+            (Instr::Measure, 0, true),
+        ],
+        &[],
+        &[(Instr::Epr(remote), 3, false)],
+    ];
+    let heads = [
+        Head::Commands { app: 7 },
+        Head::Hello { app: 7 },
+        Head::Factory {
+            app: 7,
+            repeats: 3,
+            notify: true,
+        },
+    ];
+    assert_eq!(rt; messages.len(), heads.len());
+    for (message, (head, list)) in messages.iter().zip(heads.into_iter().zip(commands)) {
+        assert_eq!(rt; message.head, head);
+        assert_eq!(rt; message.list.len(), list.len());
+        for (command, wanted) in message.list.iter().zip(list) {
+            assert_eq!(rt; (command.instr, command.qubit, command.notify), *wanted);
+        }
+    }
     Ok(())
 }
 
 #[test]
 fn first_refusal_is_told(rt: HostRuntime) -> Result<(), Fail> {
     let alloc = rt.alloc();
-    let cases = [
-        ("dance", 1, ScriptWhy::Word),
-        ("new 1", 1, ScriptWhy::Count),
-        ("x", 1, ScriptWhy::Count),
-        ("x 65536", 1, ScriptWhy::Number),
-        ("rotx 0 256", 1, ScriptWhy::Number),
-        ("send 0 0 127.0.0 1", 1, ScriptWhy::Number),
-        ("send 0 0 127.0.0.1 0", 1, ScriptWhy::Number),
-        ("new\nhello", 2, ScriptWhy::Pending),
-        ("go", 1, ScriptWhy::Nothing),
-        ("factory 256", 1, ScriptWhy::Number),
-        ("new\n", 2, ScriptWhy::Pending),
-        ("new\n\n# end", 4, ScriptWhy::Pending),
+    let cases: [(ScriptWhy, &[(&str, u32)]); 5] = [
+        (ScriptWhy::Word, &[("dance", 1)]),
+        (ScriptWhy::Count, &[("new 1", 1), ("x", 1)]),
+        (
+            ScriptWhy::Number,
+            &[
+                ("x 65536", 1),
+                ("rotx 0 256", 1),
+                ("send 0 0 127.0.0 1", 1),
+                ("send 0 0 127.0.0.1 0", 1),
+                ("factory 256", 1),
+            ],
+        ),
+        (
+            ScriptWhy::Pending,
+            &[("new\nhello", 2), ("new\n", 2), ("new\n\n# end", 4)],
+        ),
+        (ScriptWhy::Nothing, &[("go", 1)]),
     ];
-    for (text, line, why) in cases {
-        assert_eq!(rt; refusal(alloc, text)?, (line, Some(why)), "{text}");
+    for (why, texts) in cases {
+        for (text, line) in texts {
+            assert_eq!(rt; refusal(alloc, text)?, (*line, Some(why)), "{text}");
+        }
     }
     Ok(())
 }
