@@ -57,61 +57,33 @@ impl Whole {
     }
 }
 
-pub(crate) const LIMIT: Whole = Whole {
-    key: Key::Limit,
-    least: 1,
-    most: 12,
-    default: Some(12),
-};
+// A key with its least and its greatest number, and the one where it is absent, if it may be.
+macro_rules! whole {
+    ($key:ident, $least:literal, $most:literal, $default:expr) => {
+        Whole {
+            key: Key::$key,
+            least: $least,
+            most: $most,
+            default: $default,
+        }
+    };
+}
 
-pub(crate) const ROOM: Whole = Whole {
-    key: Key::Room,
-    least: 1,
-    most: 16,
-    default: Some(16),
-};
+pub(crate) const LIMIT: Whole = whole!(Limit, 1, 12, Some(12));
 
-pub(crate) const JOURNAL: Whole = Whole {
-    key: Key::Journal,
-    least: 1,
-    most: 1_048_576,
-    default: Some(65_536),
-};
+pub(crate) const ROOM: Whole = whole!(Room, 1, 16, Some(16));
 
-pub(crate) const PATIENCE: Whole = Whole {
-    key: Key::Patience,
-    least: 0,
-    most: 1_000_000,
-    default: Some(100),
-};
+pub(crate) const JOURNAL: Whole = whole!(Journal, 1, 1_048_576, Some(65_536));
 
-pub(crate) const WAIT_MS: Whole = Whole {
-    key: Key::WaitMs,
-    least: 0,
-    most: 1_000,
-    default: Some(10),
-};
+pub(crate) const PATIENCE: Whole = whole!(Patience, 0, 1_000_000, Some(100));
 
-pub(crate) const WORKERS: Whole = Whole {
-    key: Key::Workers,
-    least: 1,
-    most: 8,
-    default: Some(1),
-};
+pub(crate) const WAIT_MS: Whole = whole!(WaitMs, 0, 1_000, Some(10));
 
-pub(crate) const CONNECTIONS: Whole = Whole {
-    key: Key::Connections,
-    least: 1,
-    most: 64,
-    default: Some(64),
-};
+pub(crate) const WORKERS: Whole = whole!(Workers, 1, 8, Some(1));
 
-pub(crate) const PORT: Whole = Whole {
-    key: Key::Port,
-    least: 1,
-    most: 65_535,
-    default: None,
-};
+pub(crate) const CONNECTIONS: Whole = whole!(Connections, 1, 64, Some(64));
+
+pub(crate) const PORT: Whole = whole!(Port, 1, 65_535, None);
 
 /// The keys of the top table.
 pub(crate) const TOP_KEYS: [Key; 9] = [

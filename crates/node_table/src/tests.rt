@@ -27,19 +27,21 @@ fn refusal(alloc: Global, pieces: &[&str]) -> Result<Option<SettingsFault>, Fail
     Ok(read(alloc, pieces)?.err())
 }
 
+// A place on this machine.
+fn local(port: u16) -> Place {
+    Place {
+        address: 0x7f00_0001,
+        port,
+    }
+}
+
 #[test]
 fn two_nodes_are_read(rt: HostRuntime) -> Result<(), Fail> {
     let Ok(settings) = read(rt.alloc(), &[SEED, NUMBERS, TWO_NODES])? else {
         return Err(Fail::from("refused"));
     };
     assert_eq!(rt; settings.shape.nodes(), 2);
-    assert_eq!(rt;
-        settings.shape.place(1),
-        Place {
-            address: 0x7f00_0001,
-            port: 8822
-        }
-    );
+    assert_eq!(rt; settings.shape.place(1), local(8822));
     assert_eq!(rt; settings.shape.limit(), 12);
     assert_eq!(rt; settings.shape.room(), 16);
     assert_eq!(rt; settings.seed, [0; 32]);
@@ -55,13 +57,7 @@ fn two_nodes_are_read(rt: HostRuntime) -> Result<(), Fail> {
 fn plain_nodes_have_ports_of_their_own(rt: HostRuntime) -> Result<(), Fail> {
     let settings = plain_settings(8);
     assert_eq!(rt; settings.shape.nodes(), 8);
-    assert_eq!(rt;
-        settings.shape.place(7),
-        Place {
-            address: 0x7f00_0001,
-            port: 8828
-        }
-    );
+    assert_eq!(rt; settings.shape.place(7), local(8828));
     assert_eq!(rt; settings.journal, 65_536);
     Ok(())
 }
