@@ -53,28 +53,7 @@ few_most (suc n) place (x ∷ t) =
 
 -- a command asks at most 65,536 times
 few_copies : (i : Instr) (c : Command) → c.qubit < 65536 → length (unrolled_as i c) ≤ 65536
-few_copies instr.Allocate c h = omega (arith, length-replicate c.qubit (record c { qubit = 0; instr = instr.New }))
-few_copies instr.I c h = omega arith
-few_copies instr.New c h = omega arith
-few_copies instr.Measure c h = omega arith
-few_copies instr.MeasureInplace c h = omega arith
-few_copies instr.Reset c h = omega arith
-few_copies (instr.Send r) c h = omega arith
-few_copies instr.Recv c h = omega arith
-few_copies (instr.Epr r) c h = omega arith
-few_copies instr.EprRecv c h = omega arith
-few_copies instr.X c h = omega arith
-few_copies instr.Z c h = omega arith
-few_copies instr.Y c h = omega arith
-few_copies instr.T c h = omega arith
-few_copies (instr.RotX step) c h = omega arith
-few_copies (instr.RotY step) c h = omega arith
-few_copies (instr.RotZ step) c h = omega arith
-few_copies instr.H c h = omega arith
-few_copies instr.K c h = omega arith
-few_copies (instr.Cnot target) c h = omega arith
-few_copies (instr.Cphase other) c h = omega arith
-few_copies instr.Release c h = omega arith
+few_copies i c h = grind (arith, length-replicate c.qubit (record c { qubit = 0; instr = instr.New }))
 
 few_unrolled : (cs : List Command) → HaveTwoBytes cs → length (flat_map unrolled cs) ≤ length cs * 65536
 few_unrolled [] h = omega arith

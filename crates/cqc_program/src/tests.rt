@@ -2,6 +2,7 @@
 ghost use Rattle.cqc_program.specs.Walks.{IsOver};
 
 use super::*;
+use std::test::Fail;
 
 // A command without operand.
 fn plain(instr: Instr, notify: bool) -> Command {
@@ -23,85 +24,68 @@ fn step(walk: &mut Walk, body: &[u8], ok: bool) -> Option<Command>
     Some(command)
 }
 
-#[test]
-fn allocate_is_as_many_news(rt: HostRuntime) {
-    let body = [0, 3, 22, 1];
-    let mut walk = Walk::open(false, &body).expect(&rt, "a list");
-    let new = plain(Instr::New, true);
-    assert_eq!(rt; step(&mut walk, &body, true), Some(new));
-    assert_eq!(rt; step(&mut walk, &body, true), Some(new));
-    assert_eq!(rt; step(&mut walk, &body, true), Some(new));
-    assert_eq!(rt; step(&mut walk, &body, true), None);
-    assert!(rt; walk.done_due());
+// Whether a walk asks these commands one after the other, each of which succeeds.
+fn asks(walk: &mut Walk, body: &[u8], asked: &[(Instr, bool)]) -> bool
+    requires { IsOver body.now walk.old }
+    ensures { IsOver body.now walk.new }
+{
+    for wanted in asked {
+        if step(walk, body, true) != Some(plain(wanted.0, wanted.1)) {
+            return false;
+        }
+    }
+    true
 }
 
-#[test]
-fn allocate_of_none_is_reached(rt: HostRuntime) {
-    let body = [0, 0, 22, 1];
-    let walk = Walk::open(false, &body).expect(&rt, "a list");
-    assert_eq!(rt; walk.next(&body), None);
-    assert!(rt; walk.done_due());
-}
+// A body, a FACTORY's or not; what it asks; and whether DONE is due then.
+type Case<'a> = (bool, &'a [u8], &'a [(Instr, bool)], bool);
 
 #[test]
-fn factory_runs_its_list_again(rt: HostRuntime) {
-    let body = [2, 1, 0, 0, 1, 0];
-    let mut walk = Walk::open(true, &body).expect(&rt, "a list");
-    let new = plain(Instr::New, false);
-    assert_eq!(rt; step(&mut walk, &body, true), Some(new));
-    assert_eq!(rt; step(&mut walk, &body, true), Some(new));
-    assert_eq!(rt; step(&mut walk, &body, true), None);
-    assert!(rt; walk.done_due());
-}
-
-#[test]
-fn factory_of_no_repeats_reaches_no_command(rt: HostRuntime) {
-    let noticed = [0, 1, 0, 0, 1, 0];
-    let walk = Walk::open(true, &noticed).expect(&rt, "a list");
-    assert_eq!(rt; walk.next(&noticed), None);
-    assert!(rt; walk.done_due());
-    let unreached = [0, 0, 0, 0, 1, 1];
-    let walk = Walk::open(true, &unreached).expect(&rt, "a list");
-    assert_eq!(rt; walk.next(&unreached), None);
-    assert!(rt; !walk.done_due());
-}
-
-#[test]
-fn allocate_is_unrolled_in_each_round(rt: HostRuntime) {
-    let body = [2, 0, 0, 2, 22, 0, 0, 0, 10, 0];
-    let mut walk = Walk::open(true, &body).expect(&rt, "a list");
-    let new = plain(Instr::New, false);
-    let x = plain(Instr::X, false);
-    assert_eq!(rt; step(&mut walk, &body, true), Some(new));
-    assert_eq!(rt; step(&mut walk, &body, true), Some(new));
-    assert_eq!(rt; step(&mut walk, &body, true), Some(x));
-    assert_eq!(rt; step(&mut walk, &body, true), Some(new));
-    assert_eq!(rt; step(&mut walk, &body, true), Some(new));
-    assert_eq!(rt; step(&mut walk, &body, true), Some(x));
-    assert_eq!(rt; step(&mut walk, &body, true), None);
-    assert!(rt; !walk.done_due());
+fn walks_ask_their_commands(rt: HostRuntime) -> Result<(), Fail> {
+    use Instr::{New, X};
+    let two_rounds = [
+        (New, false),
+        (New, false),
+        (X, false),
+        (New, false),
+        (New, false),
+        (X, false),
+    ];
+    let cases: [Case; 7] = [
+        // ALLOCATE is as many NEW, and one of none is reached
+        (false, &[0, 3, 22, 1], &[(New, true); 3], true),
+        (false, &[0, 0, 22, 1], &[], true),
+        // a FACTORY runs its list again, and one of no repeats reaches no command
+        (true, &[2, 1, 0, 0, 1, 0], &[(New, false); 2], true),
+        (true, &[0, 1, 0, 0, 1, 0], &[], true),
+        (true, &[0, 0, 0, 0, 1, 1], &[], false),
+        // ALLOCATE is unrolled in each round
+        (true, &[2, 0, 0, 2, 22, 0, 0, 0, 10, 0], &two_rounds, false),
+        // rounds that ask nothing end the walk
+        (true, &[255, 0, 0, 0, 22, 0, 0, 0, 22, 1], &[], true),
+    ];
+    for (factory, body, asked, done) in cases {
+        if body.len() > 16 {
+            return Err("a short body".into());
+        }
+        let mut walk = Walk::open(factory, body).expect(&rt, "a list");
+        assert!(rt; asks(&mut walk, body, asked));
+        assert_eq!(rt; walk.next(body), None);
+        assert_eq!(rt; walk.done_due(), done);
+    }
+    Ok(())
 }
 
 #[test]
 fn nothing_follows_an_error(rt: HostRuntime) {
     let body = [2, 1, 0, 0, 1, 1, 0, 0, 10, 1];
     let mut walk = Walk::open(true, &body).expect(&rt, "a list");
-    assert_eq!(rt; step(&mut walk, &body, true), Some(plain(Instr::New, true)));
-    assert_eq!(rt; step(&mut walk, &body, true), Some(plain(Instr::X, true)));
-    assert_eq!(rt;
-        step(&mut walk, &body, false),
-        Some(plain(Instr::New, true))
-    );
-    assert_eq!(rt; step(&mut walk, &body, true), None);
-    assert!(rt; !walk.done_due());
-}
-
-#[test]
-fn rounds_that_ask_nothing_end_the_walk(rt: HostRuntime) {
-    let body = [255, 0, 0, 0, 22, 0, 0, 0, 22, 1];
-    let walk = Walk::open(true, &body).expect(&rt, "a list");
+    let first = [(Instr::New, true), (Instr::X, true)];
+    assert!(rt; asks(&mut walk, &body, &first));
+    let failed = step(&mut walk, &body, false);
+    assert_eq!(rt; failed, Some(plain(Instr::New, true)));
     assert_eq!(rt; walk.next(&body), None);
-    assert!(rt; walk.done_due());
+    assert!(rt; !walk.done_due());
 }
 
 #[test]
