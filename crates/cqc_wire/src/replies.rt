@@ -29,8 +29,8 @@ fn pair_bytes(p: &PairInfo) -> [u8; 40]
     ]
 }
 
-// The type of a reply.
-fn kind_of(reply: &Reply) -> u8
+/// The type of a reply.
+pub fn kind_of(reply: &Reply) -> u8
     ensures { result ≡ reply_kind reply.now }
 {
     match reply {

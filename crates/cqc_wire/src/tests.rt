@@ -17,15 +17,15 @@ fn reply_in_room(app: u16, reply: Reply) -> Room {
     Room { out, size }
 }
 
-// The first pair between app 1 at port 8821 and app 2 at port 8822 of 127.0.0.1.
+// A pair whose bytes all differ.
 const PAIR: PairInfo = PairInfo {
-    node_a: 0x7F00_0001,
-    port_a: 0x2275,
-    app_a: 1,
-    node_b: 0x7F00_0001,
-    port_b: 0x2276,
-    app_b: 2,
-    pair: 0,
+    node_a: 0x0102_0304,
+    port_a: 0x0506,
+    app_a: 0x0708,
+    node_b: 0x090A_0B0C,
+    port_b: 0x0D0E,
+    app_b: 0x0F10,
+    pair: 0x1112_1314,
 };
 
 // A command without options.
@@ -90,32 +90,8 @@ fn replies_have_their_bytes(rt: HostRuntime) {
 }
 
 #[test]
-fn pairs_have_their_bytes(rt: HostRuntime) {
-    let pair = reply_in_room(1, Reply::Pair(1, PAIR));
-    assert_eq!(rt; pair.size, 50);
-    assert!(rt; pair.out[..10] == [0x02, 0x06, 0, 1, 0, 0, 0, 0x2A, 0, 1]);
-    assert!(rt; pair.out[10..22] == [0x7F, 0, 0, 1, 0x22, 0x75, 0, 1, 0x7F, 0, 0, 1]);
-    assert!(rt;
-        pair.out[22..50]
-            == [
-                0x22, 0x76, 0, 2, 0, 0, 0, 0, 0, 0, 0, 0, 0, 0, 0, 0, 0, 0, 0, 0, 0, 0, 0, 0, 0, 0,
-                0, 0
-            ]
-    );
-}
-
-#[test]
 fn parts_of_a_pair_have_their_places(rt: HostRuntime) {
-    let info = PairInfo {
-        node_a: 0x0102_0304,
-        port_a: 0x0506,
-        app_a: 0x0708,
-        node_b: 0x090A_0B0C,
-        port_b: 0x0D0E,
-        app_b: 0x0F10,
-        pair: 0x1112_1314,
-    };
-    let pair = reply_in_room(0x0A0B, Reply::Pair(0x0C0D, info));
+    let pair = reply_in_room(0x0A0B, Reply::Pair(0x0C0D, PAIR));
     assert_eq!(rt; pair.size, 50);
     assert!(rt; pair.out[..10] == [0x02, 0x06, 0x0A, 0x0B, 0, 0, 0, 0x2A, 0x0C, 0x0D]);
     assert!(rt;
@@ -302,12 +278,11 @@ fn replies_are_read(rt: HostRuntime) {
 
 #[test]
 fn a_pair_is_read_where_its_last_bytes_are_0(rt: HostRuntime) {
-    let info = PairInfo { pair: 9, ..PAIR };
-    let mut room = reply_in_room(7, Reply::Pair(3, info));
+    let mut room = reply_in_room(7, Reply::Pair(3, PAIR));
     let head = reply_head(6, 42);
     assert_eq!(rt;
         read_reply(&head, &room.out[8..50]),
-        Some(Reply::Pair(3, info))
+        Some(Reply::Pair(3, PAIR))
     );
     room.out[40] = 1;
     assert_eq!(rt; read_reply(&head, &room.out[8..50]), None);
