@@ -24,10 +24,10 @@ pub use turns::replay;
 pub use worker::READ_LIMIT;
 
 #[cfg(test)]
+mod carrying_tests;
+#[cfg(test)]
 mod crossing_tests;
 #[cfg(test)]
 mod serving_tests;
-#[cfg(test)]
-mod shared_tests;
 #[cfg(test)]
 mod tests;
