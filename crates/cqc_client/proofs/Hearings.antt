@@ -1,5 +1,5 @@
 -- Hearing replies one after the other: `hear_more` adds one, and `hear_stop` stops at a part of one.
-use Rattle.std.proofs.Common.{◌≡◌, ℕ, ◌≤◌, List, [], ◌∷◌, ◌++◌, length, take, drop, Bool, true, false, Option, refl, sym, ap, ◌∙◌, arith, length-append, length-drop}
+use Rattle.std.proofs.Common.{◌≡◌, ℕ, ◌≤◌, List, [], ◌∷◌, ◌++◌, length, take, drop, Bool, true, false, Option, refl, sym, ap, subst, ◌∙◌, arith, length-append, length-drop}
 use Rattle.std.specs.List.{flat_map}
 use Rattle.std.proofs.lemmas.List.{append-nil, take-append-drop}
 use Rattle.std.proofs.lemmas.Grind.{flat_map-append}
@@ -41,6 +41,10 @@ pub record Hearing (last : Bool) (app : ℕ) (came shown : List ℕ) : Type 0 wh
 
 pub nothing_heard : (app : ℕ) → Hearing false app [] []
 nothing_heard app = record { replies = []; heard = All-nil (λ r. FitsReply r × (is_last_reply r ≡ false)); bytes = refl; printed = refl }
+
+-- while the last reply hasn't come
+pub still_early : (last : Bool) (app : ℕ) (came shown : List ℕ) → last ≡ false → Hearing last app came shown → Hearing false app came shown
+still_early last app came shown e h = subst (λ (b : Bool). Hearing b app came shown) e h
 
 heard_as : (last : Bool) (replies : List Reply) (r : Reply) → AreEarly replies → FitsReply r → last ≡ is_last_reply r → AreHeard last (replies ++ r ∷ [])
 heard_as true replies r early f e = record { early = replies; last = r; is = refl; go_on = early; fits = f; ends = sym e }

@@ -1,28 +1,14 @@
 // The lines that are printed for replies.
 ghost use Rattle.std.specs.Prelude.{◌≡◌, ◌+◌, ◌^◌, ◌<◌, ◌≤◌, ◌∷◌, [], ◌++◌, length};
 ghost use Rattle.std.specs.Fmt.{decimal};
-ghost use Rattle.cqc_model.specs.Wire.{fault_kind};
 ghost use Rattle.cqc_client.specs.Replies.{line_of, is_last_reply};
 
 use arrayvec::ArrayString;
-use cqc_wire::{Fault, Reply, kind};
+use cqc_wire::{Reply, kind_of};
 use itoa::Buffer;
 
 /// A line of text. The longest is that of a pair, with 21 bytes.
 pub(crate) type Line = ArrayString<32>;
-
-// The type of an error.
-fn fault_number(fault: &Fault) -> u8
-    ensures { result ≡ fault_kind fault.now }
-{
-    match fault {
-        Fault::General => kind::ERR_GENERAL,
-        Fault::NoQubit => kind::ERR_NOQUBIT,
-        Fault::Unsupported => kind::ERR_UNSUPP,
-        Fault::Timeout => kind::ERR_TIMEOUT,
-        Fault::Unknown => kind::ERR_UNKNOWN,
-    }
-}
 
 // Adds a word, and a number behind it.
 fn push(line: &mut Line, word: &str, number: u32)
@@ -52,7 +38,7 @@ fn words_of(reply: &Reply) -> Line
             push(&mut line, "epr ", u32::from(*id));
             push(&mut line, " ", info.pair);
         }
-        Reply::Error(fault) => push(&mut line, "error ", u32::from(fault_number(fault))),
+        Reply::Error(_) => push(&mut line, "error ", u32::from(kind_of(reply))),
     }
     line
 }

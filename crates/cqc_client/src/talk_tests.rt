@@ -77,25 +77,21 @@ fn ended(alloc: Global, text: &str, replies: &[u8], piece: u32) -> Result<Finish
 }
 
 #[test]
-fn replies_are_printed_up_to_done(rt: HostRuntime) -> Result<(), Fail> {
-    let alloc = rt.alloc();
-    for piece in [1, 5, 64] {
-        let talk = ended(alloc, SCRIPT, &REPLIES, piece)?;
-        assert_eq!(rt; talk.answer, Talked::Done { messages: 1 });
+fn replies_are_printed_up_to_done_or_the_end(rt: HostRuntime) -> Result<(), Fail> {
+    let done = (Talked::Done { messages: 1 }, "new 0\nout 1\ndone\n");
+    let cut = (Talked::Cut { message: 0 }, "new 0\n");
+    for (have, piece, (answer, printed)) in [
+        (27, 1, done),
+        (27, 5, done),
+        (27, 64, done),
+        (10, 64, cut),
+        (11, 64, cut),
+        (18, 64, cut),
+    ] {
+        let talk = ended(rt.alloc(), SCRIPT, &REPLIES[..have], piece)?;
+        assert_eq!(rt; talk.answer, answer);
         assert!(rt; talk.link.written() == SENT.as_slice());
-        assert!(rt; talk.out.written() == b"new 0\nout 1\ndone\n".as_slice());
-    }
-    Ok(())
-}
-
-#[test]
-fn link_that_ends_early_cuts_the_talk(rt: HostRuntime) -> Result<(), Fail> {
-    let alloc = rt.alloc();
-    for have in [10, 11, 18] {
-        let talk = ended(alloc, SCRIPT, &REPLIES[..have], 64)?;
-        assert_eq!(rt; talk.answer, Talked::Cut { message: 0 });
-        assert!(rt; talk.link.written() == SENT.as_slice());
-        assert!(rt; talk.out.written() == b"new 0\n".as_slice());
+        assert!(rt; talk.out.written() == printed.as_bytes());
     }
     Ok(())
 }

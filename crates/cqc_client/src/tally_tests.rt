@@ -31,45 +31,47 @@ fn outcome(seat: u16, bit: bool) -> Entry {
 }
 
 #[test]
-fn nothing_was_measured(rt: HostRuntime) -> Result<(), Fail> {
-    assert_eq!(rt; Tally::of(&[]), Tally { equal: 0, ones: 0 });
-    let silent = [
-        entry(0, 0, CoreReply::Silent),
-        entry(1, 0, CoreReply::New(0)),
-    ];
-    assert_eq!(rt; Tally::of(&silent), Tally { equal: 0, ones: 0 });
-    Ok(())
-}
-
-#[test]
 fn outcomes_are_paired_in_their_order(rt: HostRuntime) -> Result<(), Fail> {
-    let entries = [
-        outcome(0, true),
-        entry(0, 0, CoreReply::Silent),
-        outcome(0, false),
-        outcome(1, true),
-        outcome(0, true),
-        outcome(1, true),
-        outcome(1, true),
-    ];
-    assert_eq!(rt; Tally::of(&entries), Tally { equal: 2, ones: 2 });
-    Ok(())
-}
-
-#[test]
-fn outcomes_without_partner_are_no_equal_ones(rt: HostRuntime) -> Result<(), Fail> {
-    let longer_first = [outcome(0, false), outcome(1, false), outcome(0, true)];
-    assert_eq!(rt; Tally::of(&longer_first), Tally { equal: 1, ones: 1 });
-    let longer_second = [outcome(1, true), outcome(1, true), outcome(0, true)];
-    assert_eq!(rt; Tally::of(&longer_second), Tally { equal: 1, ones: 1 });
-    Ok(())
-}
-
-#[test]
-fn other_connections_do_not_count(rt: HostRuntime) -> Result<(), Fail> {
+    let silent = entry(0, 0, CoreReply::Silent);
     let one = CoreReply::Outcome(true);
-    let entries = [entry(0, 1, one), entry(2, 0, one), outcome(1, true)];
-    assert_eq!(rt; Tally::of(&entries), Tally { equal: 0, ones: 0 });
+    let cases: [(&[Entry], usize, usize); 6] = [
+        // nothing was measured
+        (&[], 0, 0),
+        (&[silent, entry(1, 0, CoreReply::New(0))], 0, 0),
+        (
+            &[
+                outcome(0, true),
+                silent,
+                outcome(0, false),
+                outcome(1, true),
+                outcome(0, true),
+                outcome(1, true),
+                outcome(1, true),
+            ],
+            2,
+            2,
+        ),
+        // outcomes without partner are no equal ones
+        (
+            &[outcome(0, false), outcome(1, false), outcome(0, true)],
+            1,
+            1,
+        ),
+        (
+            &[outcome(1, true), outcome(1, true), outcome(0, true)],
+            1,
+            1,
+        ),
+        // other connections don't count
+        (
+            &[entry(0, 1, one), entry(2, 0, one), outcome(1, true)],
+            0,
+            0,
+        ),
+    ];
+    for (entries, equal, ones) in cases {
+        assert_eq!(rt; Tally::of(entries), Tally { equal, ones });
+    }
     Ok(())
 }
 

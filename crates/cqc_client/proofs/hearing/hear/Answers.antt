@@ -1,7 +1,7 @@
-use Rattle.std.proofs.Common.{rules, ◌≡◌, [], ◌++◌, Bool, false, refl, subst, ◌∙◌, arith}
+use Rattle.std.proofs.Common.{rules, [], ◌++◌, refl, ◌∙◌, arith}
 use Rattle.qron_link.proofs.Known.{read_none, written_none, written_on}
 use Rattle.qron_link.proofs.Fills.{took_on}
-use Rattle.cqc_client.proofs.Hearings.{Hearing, nothing_heard, hear_more, hear_stop}
+use Rattle.cqc_client.proofs.Hearings.{nothing_heard, still_early, hear_more, hear_stop}
 use Rattle.cqc_client.proofs.hearing.hear.Goals as goal
 
 pub loop-last-init : goal.loop-last-init
@@ -22,14 +22,12 @@ loop-last-init g c = (
 pub loop-last-preserved : goal.loop-last-preserved
 loop-last-preserved g c =
     let kept = c.loop-last.invariant in
-    let t = c.in-Ok.ensures.heard in
-    let going : c.loop-last.last ≡ false = search rules in
-    let more : Hearing false c.args.app kept.0 kept.1 = subst (λ (b : Bool). Hearing b c.args.app kept.0 kept.1) going kept.4 in (
+    let t = c.in-Ok.ensures.heard in (
       kept.0 ++ t.0,
       kept.1 ++ t.1,
       took_on _ _ _ _ _ _ _ _ kept.2 t.2,
       written_on _ _ _ _ _ kept.3 t.3,
-      hear_more _ _ _ _ _ _ more t.4,
+      hear_more _ _ _ _ _ _ (still_early _ _ _ _ (search rules) kept.4) t.4,
       omega (arith, c.in-Ok.ensures.reads),
       omega (arith, c.in-Ok.ensures.prints),
       c.in-Ok.ensures.held ∙ kept.7,
@@ -42,11 +40,5 @@ pub returns-in-Err-clause-heard : goal.returns-in-Err-clause-heard
 returns-in-Err-clause-heard g c =
     let kept = c.loop-last.invariant in
     let t = c.in-Err.ensures.heard in
-    let going : c.loop-last.last ≡ false = search rules in
-    let more : Hearing false c.args.app kept.0 kept.1 = subst (λ (b : Bool). Hearing b c.args.app kept.0 kept.1) going kept.4 in (
-      kept.0 ++ t.0,
-      kept.1 ++ t.1,
-      took_on _ _ _ _ _ _ _ _ kept.2 t.2,
-      written_on _ _ _ _ _ kept.3 t.3,
-      hear_stop _ _ _ _ _ _ _ _ more t.4,
-    )
+    let part = hear_stop _ _ _ _ _ _ _ _ (still_early _ _ _ _ (search rules) kept.4) t.4 in
+    (kept.0 ++ t.0, kept.1 ++ t.1, took_on _ _ _ _ _ _ _ _ kept.2 t.2, written_on _ _ _ _ _ kept.3 t.3, part)
