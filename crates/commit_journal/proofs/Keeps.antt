@@ -154,26 +154,14 @@ others_none old h prefix all own = let whole = ap (λ (l : List Entry). own_coun
 
 pub seen_all : (old new : Worker) (h : List Entry) → IsPrefix old.seen h → own_count old.seat h ≡ old.made → old.made ≡ own_count old.seat old.seen
     → new ≡ record { seat = old.seat; made = old.made; seen = h } → HasSeen old new h
-seen_all old new h prefix all own is = record {
-  between = prefix.0;
-  history = sym prefix.1;
-  others = others_none old h prefix all own;
-  seen = ap (λ (w : Worker). w.seen) is;
-  made = ap (λ (w : Worker). w.made) is;
-  seat = ap (λ (w : Worker). w.seat) is;
-}
+seen_all old new h prefix all own is =
+    subst (λ (w : Worker). HasSeen old w h) (sym is) (record { between = prefix.0; history = sym prefix.1; others = others_none old h prefix all own; seen = refl; made = refl; seat = refl })
 
 pub added_one : (shape : Shape) (old new : Worker) (h : List Entry) (e : Entry) → IsPrefix old.seen h → own_count old.seat h ≡ old.made → old.made ≡ own_count old.seat old.seen
     → IsLegal shape (h ++ e ∷ []) → new ≡ record { seat = old.seat; made = old.made + 1; seen = h ++ e ∷ [] } → HasAdded shape old new h e
-added_one shape old new h e prefix all own legal is = record {
-  between = prefix.0;
-  history = sym prefix.1;
-  others = others_none old h prefix all own;
-  seen = ap (λ (w : Worker). w.seen) is;
-  made = ap (λ (w : Worker). w.made) is;
-  seat = ap (λ (w : Worker). w.seat) is;
-  legal = subst (IsLegal shape) (sym (ap (λ (w : Worker). w.seen) is)) legal;
-}
+added_one shape old new h e prefix all own legal is =
+    subst (λ (w : Worker). HasAdded shape old w h e) (sym is)
+    (record { between = prefix.0; history = sym prefix.1; others = others_none old h prefix all own; seen = refl; made = refl; seat = refl; legal = legal })
 
 pub own_few : (s : ℕ) (h : List Entry) → own_count s h ≤ length h
 own_few s h = own_within s h

@@ -20,6 +20,9 @@ change_cons P k a xs here rest m n = by (m == k) refl
         subst (λ (v : _). P m v) same (subst (λ (i : ℕ). P i a) (sym (eq_of m k e)) here)
     by false e f = rest m n (sym (ap (λ b. cond b (Some a) (change_at xs m)) e) ∙ f)
 
+pub change_one : {A : Type 0} (P : ℕ → A → Type 0) (k : ℕ) (a : A) → P k a → (m : ℕ) (n : A) → change_at ((k, a) ∷ []) m ≡ Some n → P m n
+change_one P k a here = change_cons P k a [] here (change_nil P)
+
 -- the numbers of a list
 pub number_cons : {A : Type 0} (k : ℕ) (a : A) (xs : List (ℕ × A)) (m : ℕ) → is_some (change_at ((k, a) ∷ xs) m) ≡ ((m == k) || is_some (change_at xs m))
 number_cons k a xs m = by (m == k)

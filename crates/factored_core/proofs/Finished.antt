@@ -2,7 +2,7 @@
 -- nothing prepared.
 --     all_done    finished or undone
 --     left_by     what a prepared step leaves
-use Rattle.std.proofs.Common.{ℕ, ◌≡◌, Bool, true, false, cond, Option, Some, None, is_some, option_map, unwrap_or, refl, sym, ap, subst, ◌∙◌}
+use Rattle.std.proofs.Common.{◌≡◌, Bool, true, false, cond, Option, Some, None, is_some, option_map, unwrap_or, refl, sym, ap, subst, ◌∙◌}
 use Rattle.state_model.specs.Amplitudes.{Amplitudes}
 use Rattle.state_model.proofs.Booleans.{clash}
 use Rattle.amplitude_register.specs.States.{Next, empty}

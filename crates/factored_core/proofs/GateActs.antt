@@ -1,5 +1,5 @@
 -- A gate on one qubit on a board: what was prepared is the step of the call.
-use Rattle.std.proofs.Common.{ℕ, ◌≡◌, ◌==◌, false, List, [], ◌∷◌, Option, Some, None, IsSome, nat_abs, refl, sym, ap, subst, ◌∙◌}
+use Rattle.std.proofs.Common.{ℕ, ◌≡◌, ◌==◌, List, [], ◌∷◌, Option, Some, None, IsSome, nat_abs, refl, sym, ap, subst, ◌∙◌}
 use Rattle.std.specs.Prelude.{MatchResult, Result, Ok, Err}
 use Rattle.state_model.specs.Amplitudes.{Amplitudes, vector_of}
 use Rattle.state_model.specs.Registers.{register_vector}
@@ -29,7 +29,7 @@ use Rattle.factored_core.proofs.Changed.{changed-none, node_prepared, node_still
 use Rattle.factored_core.proofs.ChangeLists.{number_one}
 use Rattle.core_cells.proofs.Presence.{all_there}
 use Rattle.factored_core.proofs.Sizes.{kept_bound, size_along, large_bound}
-use Rattle.factored_core.proofs.GateSteps.{in_slot, said, gate_done, gate_refused}
+use Rattle.factored_core.proofs.GateSteps.{in_slot, gate_done, gate_refused}
 
 -- the own node and one slot are named
 pub named_in_slot : (c : Call) (own : Node) (word : Option ℕ) (r : CoreReply) (t : ℕ) (a : Amplitudes) → AreNamed (in_one_slot c word r t) (in_slot c.node own t a)

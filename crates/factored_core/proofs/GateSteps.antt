@@ -1,5 +1,5 @@
 -- A gate on one qubit, prepared in its slot, is the step of the call: it is made, or refused as too large.
-use Rattle.std.proofs.Common.{ℕ, ◌≡◌, ◌<◌, ◌≤◌, ◌^◌, ◌==◌, Bool, true, false, ◌&&◌, ◌||◌, List, [], ◌∷◌, Option, Some, None, is_some, refl, sym, ap, subst, ◌∙◌}
+use Rattle.std.proofs.Common.{ℕ, ◌≡◌, ◌<◌, ◌≤◌, ◌^◌, ◌==◌, true, false, ◌&&◌, List, [], ◌∷◌, Some, None, refl, sym, ap, subst, ◌∙◌}
 use Rattle.state_model.specs.Row.{is_listed}
 use Rattle.state_model.specs.Amplitudes.{Amplitudes}
 use Rattle.state_model.specs.StateVector.{IsSameState, IsSize}
@@ -26,7 +26,7 @@ use Rattle.factored_core.specs.Changes.{Changes, IsStepBy, ChangesFit, register_
 use Rattle.factored_core.specs.Ready.{IsReady}
 use Rattle.factored_core.specs.Slots.{IsSpot}
 use Rattle.factored_core.specs.declared.slots.Spot.{Spot}
-use Rattle.factored_core.proofs.ChangeLists.{change_nil, change_cons, number_one}
+use Rattle.factored_core.proofs.ChangeLists.{change_one, number_one}
 use Rattle.factored_core.proofs.Operands.{none_refuses, own_fits, own_number_is, operand_lives, spot_home, spot_fits}
 use Rattle.factored_core.proofs.Legal.{reply_done, reply_too_large, legal_entry, other_draws_none}
 use Rattle.factored_core.proofs.NodeSteps.{node_kept}
@@ -84,12 +84,10 @@ module _ (shape : Shape) (c : Call) (cs : Cells) (own : Node) (ready : IsReady s
       nodes_touched = own_touched shape c own None reply.Silent local;
       pool_touched = ap (effect_touches_pool s c) is;
       slots_touched = λ t. ap (effect_touches_slot s home c t) is ∙ ap (λ n. n == t) at_slot ∙ sym (number_one spot.slot a t);
-      nodes = change_cons (λ m n. FitsNode ((effect shape s c 0).state) m (held_map n) (arrived_map n)) c.node own []
-          (node_kept shape s c 0 c.node own (own_fits shape c cs own ready s home standing fit) (OneGate g) is refl) (change_nil (λ m n. FitsNode ((effect shape s c 0).state) m (held_map n) (arrived_map n)));
+      nodes = change_one (λ m n. FitsNode ((effect shape s c 0).state) m (held_map n) (arrived_map n)) c.node own
+          (node_kept shape s c 0 c.node own (own_fits shape c cs own ready s home standing fit) (OneGate g) is refl);
       pool = λ p e. absurd (no_some p e);
-      slots = change_cons (λ t b. FitsSlot shape ((effect shape s c 0).state) (homes_step s home (said c reply.Silent)) t (register_with shape.limit b)) spot.slot a []
-          fits
-          (change_nil (λ t b. FitsSlot shape ((effect shape s c 0).state) (homes_step s home (said c reply.Silent)) t (register_with shape.limit b)));
+      slots = change_one (λ t b. FitsSlot shape ((effect shape s c 0).state) (homes_step s home (said c reply.Silent)) t (register_with shape.limit b)) spot.slot a fits;
     }
       where
         no_some : {A : Type 0} (p : A) → None ≡ Some p → ⊥
@@ -118,12 +116,11 @@ module _ (shape : Shape) (c : Call) (cs : Cells) (own : Node) (ready : IsReady s
       nodes_touched = own_touched shape c own None (reply.Error General) local;
       pool_touched = refl;
       slots_touched = λ t. ap (λ k. is_gate k && operand_in_slot s home c t k) is ∙ ap (λ n. n == t) at_slot ∙ sym (number_one spot.slot a t);
-      nodes = change_cons (λ m n. FitsNode s m (held_map n) (arrived_map n)) c.node own [] (own_fits shape c cs own ready s home standing fit) (change_nil (λ m n. FitsNode s m (held_map n) (arrived_map n)));
+      nodes = change_one (λ m n. FitsNode s m (held_map n) (arrived_map n)) c.node own (own_fits shape c cs own ready s home standing fit);
       pool = λ p e. absurd (no_some p e);
-      slots = change_cons (λ t b. FitsSlot shape s home t (register_with shape.limit b)) spot.slot a []
+      slots = change_one (λ t b. FitsSlot shape s home t (register_with shape.limit b)) spot.slot a
           (subst (λ (b : Amplitudes). FitsSlot shape s home spot.slot (register_with shape.limit b)) (sym same)
-          (subst (λ (l : ℕ). FitsSlot shape s home spot.slot (register_with l ((at.cell).register).value)) here.limit (fit.slots spot.slot at.cell at.there)))
-          (change_nil (λ t b. FitsSlot shape s home t (register_with shape.limit b)));
+          (subst (λ (l : ℕ). FitsSlot shape s home spot.slot (register_with l ((at.cell).register).value)) here.limit (fit.slots spot.slot at.cell at.there)));
     }
       where
         no_some : {A : Type 0} (p : A) → None ≡ Some p → ⊥

@@ -1,11 +1,10 @@
 -- Live numbers have their homes in slots of the network: each legal entry keeps it. So a state that cells can stand for leads to one,
 -- and the opening is one.
-use Rattle.std.proofs.Common.{◌≡◌, ◌≢◌, ℕ, ◌*◌, ◌<◌, ◌≤◌, ◌==◌, nat_lt, Bool, true, false, not, cond, ◌&&◌, ◌||◌, List, [], ◌∷◌, ◌++◌, length, fold, Option, None, unwrap_or, refl, sym, ap, subst, ◌∙◌}
+use Rattle.std.proofs.Common.{◌≡◌, ◌≢◌, ℕ, ◌*◌, ◌<◌, ◌≤◌, ◌==◌, nat_lt, Bool, true, false, not, cond, ◌&&◌, ◌||◌, List, [], ◌∷◌, ◌++◌, length, fold, None, unwrap_or, refl, sym, ap, subst, ◌∙◌}
 use Rattle.state_model.specs.Row.{is_listed}
 use Rattle.state_model.proofs.Booleans.{eq_of, ne_of, or_false}
 use Rattle.state_model.proofs.Numbers.{is_listed-snoc, was_listed}
 use Rattle.network_model.specs.declared.Kind.{Kind}
-use Rattle.cqc_model.specs.declared.PairInfo.{PairInfo}
 use Rattle.network_model.specs.Network.{Network, Shape, Waiting, opening, group_of, load}
 use Rattle.network_model.specs.Kinds.{kind_of, takes_qubit, is_making}
 use Rattle.network_model.specs.Step.{effect, effect_of, refusal, refusal_of, measured, taken_out, left_as, received, received_first, quiet, after_gate, after_two, least_free, own_number}
@@ -14,11 +13,8 @@ use Rattle.network_model.specs.Factored.{homes_by, homes_step, homes_from, homes
 use Rattle.network_model.specs.declared.After.TheVariants.{TakenOut, Left, Cleared}
 use Rattle.network_model.specs.declared.Call.{Call}
 use Rattle.network_model.specs.declared.Kind.TheVariants.{Idle, Gate as OneGate, Inexact, Two as TwoGate, Measure, Make, Pair, Send, Receive, Unrolled}
-use Rattle.network_model.specs.declared.CoreReply.{CoreReply}
-use Rattle.network_model.specs.declared.CoreReply.TheVariants as reply
 use Rattle.network_model.specs.declared.Entry.{Entry}
 use Rattle.network_model.specs.declared.Line.{Line}
-use Rattle.network_model.specs.declared.Line.TheVariants as line
 use Rattle.network_model.proofs.Accepted.{accepted_lines, less_of}
 use Rattle.network_model.proofs.Homes.{legal_entries_keep_homes}
 use Rattle.network_model.proofs.SlotLaws.{accepted, own_live}

@@ -21,7 +21,7 @@ use Rattle.factored_core.specs.Replies.{in_one_slot}
 use Rattle.factored_core.specs.Slots.{IsSpot, HasPrepared, IsSame}
 use Rattle.factored_core.specs.declared.slots.Spot.{Spot}
 use Rattle.factored_core.proofs.Changed.{changed-none, node_still, some_there}
-use Rattle.factored_core.proofs.ChangeLists.{change_nil, change_cons, number_one}
+use Rattle.factored_core.proofs.ChangeLists.{change_one, number_one}
 use Rattle.factored_core.proofs.Locals.{own_touched}
 use Rattle.core_cells.proofs.Presence.{all_there}
 use Rattle.factored_core.proofs.Operands.{none_refuses, own_fits, own_number_is, spot_home}
@@ -64,16 +64,14 @@ module _ (shape : Shape) (c : Call) (cs : Cells) (own : Node) (ready : IsReady s
       nodes_touched = own_touched shape c own None reply.Silent local;
       pool_touched = pool_is;
       slots_touched = λ t. slot_is t ∙ ap (λ n. n == t) at_slot ∙ sym (number_one spot.slot a t);
-      nodes = change_cons (λ m n. FitsNode ((effect shape s c 0).state) m (held_map n) (arrived_map n)) c.node own []
-          (subst (λ (t : Network). FitsNode t c.node (held_map own) (arrived_map own)) (sym stays) (own_fits shape c cs own ready s home standing fit))
-          (change_nil (λ m n. FitsNode ((effect shape s c 0).state) m (held_map n) (arrived_map n)));
+      nodes = change_one (λ m n. FitsNode ((effect shape s c 0).state) m (held_map n) (arrived_map n)) c.node own
+          (subst (λ (t : Network). FitsNode t c.node (held_map own) (arrived_map own)) (sym stays) (own_fits shape c cs own ready s home standing fit));
       pool = λ p e. absurd (no_some p e);
-      slots = change_cons (λ t b. FitsSlot shape ((effect shape s c 0).state) (homes_by s home c (kind_of c.command.instr)) t (register_with shape.limit b)) spot.slot a []
+      slots = change_one (λ t b. FitsSlot shape ((effect shape s c 0).state) (homes_by s home c (kind_of c.command.instr)) t (register_with shape.limit b)) spot.slot a
           (subst (λ (t : Network). FitsSlot shape t (homes_by s home c (kind_of c.command.instr)) spot.slot (register_with shape.limit a)) (sym stays)
           (subst (λ (h : ℕ → ℕ). FitsSlot shape s h spot.slot (register_with shape.limit a)) (sym homes_stay)
           (subst (λ (b : Amplitudes). FitsSlot shape s home spot.slot (register_with shape.limit b)) (sym same)
-          (subst (λ (l : ℕ). FitsSlot shape s home spot.slot (register_with l ((at.cell).register).value)) (fit.slots spot.slot at.cell at.there).limit (fit.slots spot.slot at.cell at.there)))))
-          (change_nil (λ t b. FitsSlot shape ((effect shape s c 0).state) (homes_by s home c (kind_of c.command.instr)) t (register_with shape.limit b)));
+          (subst (λ (l : ℕ). FitsSlot shape s home spot.slot (register_with l ((at.cell).register).value)) (fit.slots spot.slot at.cell at.there).limit (fit.slots spot.slot at.cell at.there)))));
     }
 
   idle_done : (a : Amplitudes) → a ≡ ((at.cell).register).value → IsStepBy shape cs (in_slot c.node own spot.slot a) (said c reply.Silent)

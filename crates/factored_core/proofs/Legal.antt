@@ -1,21 +1,19 @@
 -- Entries of the core are legal: `legal_entry` from a call's ranges, its word and its reply; `reply_refused`, `reply_too_large`
 -- and `reply_done` for the three kinds of replies; and when a call draws a word.
-use Rattle.std.proofs.Common.{◌≡◌, ◌≢◌, ℕ, ◌<◌, ◌^◌, ◌%◌, ◌==◌, nat_lt, Bool, true, false, not, cond, ◌&&◌, ◌||◌, List, [], ◌∷◌, length, Option, None, Some, IsSome, is_some, is_none, unwrap_or, refl, sym, ap, ◌∙◌}
-use Rattle.state_model.specs.declared.Gate.{Gate}
+use Rattle.std.proofs.Common.{◌≡◌, ◌≢◌, ℕ, ◌<◌, ◌^◌, Bool, true, false, cond, ◌&&◌, length, Option, None, Some, IsSome, is_some, is_none, unwrap_or, refl, sym, ap, ◌∙◌}
 use Rattle.state_model.proofs.Booleans.{clash}
 use Rattle.cqc_model.specs.declared.Fault.{Fault}
-use Rattle.cqc_model.specs.declared.Fault.TheVariants.{General, NoQubit, Unsupported, Timeout, Unknown}
+use Rattle.cqc_model.specs.declared.Fault.TheVariants.{General, Unknown}
 use Rattle.network_model.specs.declared.Kind.{Kind}
-use Rattle.network_model.specs.Network.{Network, Shape, load, queue}
+use Rattle.network_model.specs.Network.{Network, Shape}
 use Rattle.network_model.specs.Kinds.{kind_of, takes_qubit, second_of, remote_of, line_of, is_gate, is_inexact, is_measurement, is_making, is_pair}
-use Rattle.network_model.specs.Step.{refusal, refusal_of, first_fault, holds_of, operand, own_number, other_number, remote_node, united_group, effect, draws, IsTooLarge, IsReply}
+use Rattle.network_model.specs.Step.{refusal, refusal_of, first_fault, operand, effect, draws, IsTooLarge, IsReply}
 use Rattle.network_model.specs.History.{IsLegalEntry, is_error, advance}
 use Rattle.cqc_model.specs.declared.Instr.TheVariants as instr
 use Rattle.network_model.specs.declared.Call.{Call}
 use Rattle.network_model.specs.declared.Kind.TheVariants.{Measure}
 use Rattle.network_model.specs.declared.CoreReply.{CoreReply}
 use Rattle.network_model.specs.declared.CoreReply.TheVariants as reply
-use Rattle.network_model.specs.declared.Line.TheVariants as line
 use Rattle.factored_core.specs.Ranges.{IsCallInRange}
 use Rattle.factored_core.specs.Ready.{IsAllowedCall}
 

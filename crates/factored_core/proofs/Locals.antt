@@ -1,5 +1,5 @@
 -- Instructions that concern no other node.
-use Rattle.std.proofs.Common.{ℕ, ◌≡◌, ◌==◌, true, ◌&&◌, ◌||◌, [], ◌∷◌, Option, None, is_some, not, refl, sym, ap, ◌∙◌}
+use Rattle.std.proofs.Common.{ℕ, ◌≡◌, ◌==◌, ◌&&◌, ◌||◌, [], ◌∷◌, Option, None, is_some, not, sym, ap, ◌∙◌}
 use Rattle.state_model.proofs.Booleans.{or_false}
 use Rattle.network_model.specs.Network.{Shape}
 use Rattle.network_model.specs.Kinds.{kind_of, remote_of}

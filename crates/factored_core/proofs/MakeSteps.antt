@@ -32,7 +32,7 @@ use Rattle.factored_core.specs.Vacancies.{IsTaken}
 use Rattle.factored_core.specs.declared.new_qubits.Vacancy.{Vacancy}
 use Rattle.core_cells.proofs.Presence.{all_there}
 use Rattle.factored_core.proofs.Changed.{changed-none, node_prepared, pool_prepared, node_still, slot_still, there_is}
-use Rattle.factored_core.proofs.ChangeLists.{change_nil, change_cons, number_one}
+use Rattle.factored_core.proofs.ChangeLists.{change_one, number_one}
 use Rattle.factored_core.proofs.GateSteps.{said}
 use Rattle.factored_core.proofs.Legal.{done_legal}
 use Rattle.factored_core.proofs.Locals.{own_touched}
@@ -107,13 +107,10 @@ module _ (shape : Shape) (c : Call) (cs : Cells) (own : Node) (ready : IsReady s
       nodes_touched = own_touched shape c given None (reply.New id) local;
       pool_touched = touches;
       slots_touched = λ t. slot_is t ∙ sym (number_one v.slot a t);
-      nodes = change_cons (λ m n. FitsNode ((effect shape s c 0).state) m (held_map n) (arrived_map n)) c.node given []
-          (node_new shape s c 0 own here is id v.number id_is number)
-          (change_nil (λ m n. FitsNode ((effect shape s c 0).state) m (held_map n) (arrived_map n)));
+      nodes = change_one (λ m n. FitsNode ((effect shape s c 0).state) m (held_map n) (arrived_map n)) c.node given
+          (node_new shape s c 0 own here is id v.number id_is number);
       pool = λ q e. subst (λ (x : Pool). FitsPool shape ((effect shape s c 0).state) (homes_by s home c (kind_of c.command.instr)) x.numbers x.slots x.pairs) (same_pool after q e) pool_fits;
-      slots = change_cons (λ t b. FitsSlot shape ((effect shape s c 0).state) (homes_by s home c (kind_of c.command.instr)) t (register_with shape.limit b)) v.slot a []
-          slot_fits
-          (change_nil (λ t b. FitsSlot shape ((effect shape s c 0).state) (homes_by s home c (kind_of c.command.instr)) t (register_with shape.limit b)));
+      slots = change_one (λ t b. FitsSlot shape ((effect shape s c 0).state) (homes_by s home c (kind_of c.command.instr)) t (register_with shape.limit b)) v.slot a slot_fits;
     }
 
   new_done : IsStepBy shape cs (in_slot_with_pool c.node given after v.slot a) (said c (reply.New id))

@@ -37,7 +37,7 @@ use Rattle.core_cells.specs.declared.cells.PoolPair.{PoolPair}
 use Rattle.factored_core.specs.Changes.{change_at, ChangesFit, register_with}
 use Rattle.factored_core.specs.Measurements.{left_value, measured_entry, HasMeasured, IsGivenBack}
 use Rattle.factored_core.specs.declared.measurements.Measured.{Measured}
-use Rattle.factored_core.proofs.ChangeLists.{change_nil, change_cons, number_cons, number_one}
+use Rattle.factored_core.proofs.ChangeLists.{change_one, change_cons, number_cons, number_one}
 use Rattle.factored_core.proofs.Legal.{no_gate_is_small, measurement_draws, reply_done, legal_entry, advance_done}
 use Rattle.factored_core.proofs.Locals.{own_touched}
 use Rattle.factored_core.proofs.NodeSteps.{keeps_nodes, node_removed, node_kept, FitsAfter as NodeFitsAfter}
@@ -155,8 +155,8 @@ module _ (shape : Shape) (c : Call) (cs : Cells) (own : Node) (m : Measured) (ha
       nodes_touched = own_touched shape c n (Some m.word) (measured_reply m.told m.outcome) (unfold remote_of in ap remote_of is);
       pool_touched = pool_is;
       slots_touched = λ t. slot_is t ∙ touched t ∙ named t;
-      nodes = change_cons (λ k v. FitsNode (advance shape s (measured_entry c m)) k (held_map v) (arrived_map v)) c.node n []
-          (subst (λ (t : Network). FitsNode t c.node (held_map n) (arrived_map n)) (sym state_is) node) (change_nil _);
+      nodes = change_one (λ k v. FitsNode (advance shape s (measured_entry c m)) k (held_map v) (arrived_map v)) c.node n
+          (subst (λ (t : Network). FitsNode t c.node (held_map n) (arrived_map n)) (sym state_is) node);
       pool = λ v e.
           subst (λ (u : Pool). FitsPool shape (advance shape s (measured_entry c m)) (homes_step s home (measured_entry c m)) u.numbers u.slots u.pairs) (some_same p v e)
           (subst (λ (t : Network). FitsPool shape t (homes_step s home (measured_entry c m)) p.numbers p.slots p.pairs) (sym state_is)
@@ -307,7 +307,7 @@ module _ (shape : Shape) (c : Call) (cs : Cells) (own : Node) (m : Measured) (ha
   SlotFits t a = FitsAfter shape s home c m.word t (register_with shape.limit a)
 
   one_slot : (a : Amplitudes) → SlotFits m.spot.slot a → (t : ℕ) (b : Amplitudes) → change_at ((m.spot.slot, a) ∷ []) t ≡ Some b → SlotFits t b
-  one_slot a h = change_cons SlotFits m.spot.slot a [] h (change_nil SlotFits)
+  one_slot a h = change_one SlotFits m.spot.slot a h
 
   two_slots : (slot : ℕ) (a d : Amplitudes) → SlotFits m.spot.slot a → SlotFits slot d → (t : ℕ) (b : Amplitudes) → change_at ((slot, d) ∷ (m.spot.slot, a) ∷ []) t ≡ Some b → SlotFits t b
   two_slots slot a d h k = change_cons SlotFits slot d ((m.spot.slot, a) ∷ []) k (one_slot a h)

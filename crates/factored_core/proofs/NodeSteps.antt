@@ -1,7 +1,5 @@
 -- Nodes fit after each step that touches them, by the instruction; and what its reply is, from the own node.
-use Rattle.std.proofs.Common.{◌≡◌, ◌≢◌, ◌⊎◌, inl, inr, ℕ, Bool, true, false, List, [], ◌∷◌, ◌++◌, position, slice_get, Option, None, Some, IsSome, is_some, is_none, unwrap_or, refl, sym, ap, subst, ◌∙◌}
-use Rattle.state_model.specs.declared.Gate.{Gate}
-use Rattle.state_model.specs.declared.Two.{Two}
+use Rattle.std.proofs.Common.{◌≡◌, ◌≢◌, ℕ, Bool, true, false, List, [], ◌∷◌, ◌++◌, slice_get, None, Some, unwrap_or, refl, sym, ap, subst, ◌∙◌}
 use Rattle.state_model.proofs.Booleans.{clash}
 use Rattle.network_model.specs.declared.Kind.{Kind}
 use Rattle.cqc_model.specs.declared.PairInfo.{PairInfo}
@@ -13,16 +11,15 @@ use Rattle.network_model.specs.Factored.{FitsNode}
 use Rattle.network_model.specs.declared.After.TheVariants.{TakenOut, Left, Cleared}
 use Rattle.network_model.specs.declared.Call.{Call}
 use Rattle.network_model.specs.declared.Kind.TheVariants.{Idle, Gate as OneGate, Inexact, Two as TwoGate, Measure, Make, Pair, Send, Receive, Unrolled}
-use Rattle.network_model.specs.declared.CoreReply.{CoreReply}
 use Rattle.network_model.specs.declared.CoreReply.TheVariants as reply
 use Rattle.network_model.specs.declared.Line.{Line}
 use Rattle.network_model.specs.declared.Line.TheVariants as line
 use Rattle.network_model.specs.declared.Place.{Place}
 use Rattle.qubit_handles.proofs.HandleLemmas.{least_is_free}
-use Rattle.virtual_node.specs.Node.{Node, is_waiting, held_map, arrived_map, with_handle, without_held, with_arrival}
+use Rattle.virtual_node.specs.Node.{Node, held_map, arrived_map, with_handle, without_held, with_arrival}
 use Rattle.virtual_node.specs.declared.arrival.Arrival.{Arrival}
 use Rattle.epr_transfer.specs.Transfer.{handle_of, sent_to, half_for, first_waiting, next_id, received_by}
-use Rattle.factored_core.proofs.Loads.{same_least_id, first_found}
+use Rattle.factored_core.proofs.Loads.{same_least_id}
 use Rattle.factored_core.proofs.NodeChanges.{same_handles, more_handles, handles_beside_more, less_handles, handles_beside_less, same_queues, more_queues, queues_beside_more}
 use Rattle.factored_core.proofs.Receipts.{IsFirst, first_is, received_handles, received_queues}
 

@@ -1,12 +1,11 @@
 -- What a ready call's operands are in a state that the cells fit: live numbers, each in the register at its home.
-use Rattle.std.proofs.Common.{ℕ, zero, suc, ◌≡◌, ◌<◌, ◌==◌, nat_lt, cond, true, ◌||◌, List, [], ◌∷◌, length, Option, Some, None, unwrap_or, slice_index_or, refl, sym, ap, subst, ◌∙◌, arith}
+use Rattle.std.proofs.Common.{ℕ, zero, suc, ◌≡◌, ◌<◌, ◌==◌, nat_lt, cond, true, ◌||◌, List, [], ◌∷◌, length, Some, None, unwrap_or, slice_index_or, refl, sym, ap, subst, ◌∙◌, arith}
 use Rattle.state_model.specs.Row.{is_listed}
 use Rattle.state_model.proofs.Booleans.{eq_true, or_true}
 use Rattle.network_model.specs.Network.{Network, Shape}
 use Rattle.network_model.specs.Kinds.{kind_of, second_of}
 use Rattle.network_model.specs.Step.{holds_of, united_group, refusal, operand, own_number, other_number}
 use Rattle.cqc_model.specs.declared.Fault.TheVariants.{General}
-use Rattle.state_model.specs.declared.Two.{Two}
 use Rattle.network_model.specs.Factored.{FitsNode, FitsSlot}
 use Rattle.network_model.specs.declared.Call.{Call}
 use Rattle.network_model.proofs.Held.{held_live}

@@ -1,5 +1,5 @@
 -- A new pair, prepared in the least free slot, one half held and the other the last arrival of another node, is the step of the call.
-use Rattle.std.proofs.Common.{ℕ, ◌≡◌, ◌≢◌, ◌<◌, ◌≤◌, ◌==◌, true, false, not, ◌&&◌, ◌||◌, [], ◌∷◌, slice_get, Option, Some, None, IsSome, unwrap_or, refl, sym, ap, subst, ◌∙◌}
+use Rattle.std.proofs.Common.{ℕ, ◌≡◌, ◌≢◌, ◌<◌, ◌≤◌, ◌==◌, true, not, ◌&&◌, ◌||◌, [], ◌∷◌, slice_get, Option, Some, None, IsSome, unwrap_or, refl, sym, ap, subst, ◌∙◌}
 use Rattle.state_model.specs.Row.{is_listed}
 use Rattle.state_model.specs.Amplitudes.{Amplitudes}
 use Rattle.state_model.specs.Registers.{register_vector}
@@ -39,7 +39,7 @@ use Rattle.factored_core.specs.declared.new_qubits.Vacancy.{Vacancy}
 use Rattle.factored_core.specs.declared.new_qubits.PairVacancy.{PairVacancy}
 use Rattle.core_cells.proofs.Presence.{all_there, maybe_node}
 use Rattle.factored_core.proofs.Changed.{some_there, changed-none, changed-slot_at, node_prepared, pool_prepared, node_still, there_is}
-use Rattle.factored_core.proofs.ChangeLists.{change_nil, change_cons, number_one}
+use Rattle.factored_core.proofs.ChangeLists.{change_one, number_one}
 use Rattle.factored_core.proofs.RefusalLines.{other_is_remote, other_within}
 use Rattle.factored_core.proofs.GateSteps.{said}
 use Rattle.factored_core.proofs.Legal.{done_legal}
@@ -49,7 +49,7 @@ use Rattle.factored_core.proofs.Operands.{none_refuses, own_fits}
 use Rattle.factored_core.proofs.PoolSteps.{pool_pair, second_number_is, second_left}
 use Rattle.factored_core.proofs.SendSteps.{other_there, other_fits}
 use Rattle.factored_core.proofs.Touched.{done_touches, with_other, numbers_of, nodes_are}
-use Rattle.factored_core.proofs.Vacant.{slot_from_pool, own_room, own_there, pool_there, copy_fits, slot_there, vacant_number, vacant_slot, less_numbers, less_slots}
+use Rattle.factored_core.proofs.Vacant.{own_room, own_there, pool_there, copy_fits, slot_there, vacant_number, vacant_slot, less_numbers, less_slots}
 
 no_some : {A : Type 0} (a : A) → None ≡ Some a → ⊥
 no_some a e = cc
@@ -157,9 +157,7 @@ module _ (shape : Shape) (c : Call) (cs : Cells) (own : Node) (ready : IsReady s
             (λ n e. subst (λ (k : ℕ). FitsNode ((effect shape s c 0).state) k (held_map half) (arrived_map half)) (number_same other n e)
             (node_paired_other shape s c 0 other to (other_fits shape c cs own ready other there to copied_to s home fit) r (away.0) (away.1) is v.second info second info_same));
         pool = λ q e. subst (λ (x : Pool). FitsPool shape ((effect shape s c 0).state) (homes_by s home c (kind_of c.command.instr)) x.numbers x.slots x.pairs) (same_pool after q e) pool_fits;
-        slots = change_cons (λ t b. FitsSlot shape ((effect shape s c 0).state) (homes_by s home c (kind_of c.command.instr)) t (register_with shape.limit b)) v.first.slot a []
-            slot_fits
-            (change_nil (λ t b. FitsSlot shape ((effect shape s c 0).state) (homes_by s home c (kind_of c.command.instr)) t (register_with shape.limit b)));
+        slots = change_one (λ t b. FitsSlot shape ((effect shape s c 0).state) (homes_by s home c (kind_of c.command.instr)) t (register_with shape.limit b)) v.first.slot a slot_fits;
       }
 
     pair_done : IsStepBy shape cs paired (said c (reply.Pair id info))

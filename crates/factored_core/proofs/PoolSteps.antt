@@ -1,10 +1,9 @@
 -- The pool fits after each step that touches it, from what was taken and given back, by the instruction. The least listed number and
 -- slot are the model's least free ones, and are there where the nodes that get a qubit have room.
 use Prim.Native.Nat.{suc}
-use Rattle.std.proofs.Common.{◌≡◌, ◌≢◌, ◌⊎◌, inl, inr, ℕ, ◌+◌, ◌*◌, ◌%◌, ◌^◌, ◌<◌, ◌≤◌, ◌==◌, nat_lt, Bool, true, false, not, cond, ◌&&◌, ◌||◌, List, [], ◌∷◌, ◌++◌, append_assoc, length, Some, refl, sym, ap, subst, ◌∙◌, arith}
+use Rattle.std.proofs.Common.{◌≡◌, ◌≢◌, ℕ, ◌+◌, ◌*◌, ◌%◌, ◌^◌, ◌<◌, ◌≤◌, ◌==◌, nat_lt, Bool, true, false, not, cond, ◌&&◌, ◌||◌, List, [], ◌∷◌, ◌++◌, append_assoc, length, refl, sym, ap, subst, ◌∙◌, arith}
 use Rattle.state_model.specs.Row.{is_listed, without}
 use Rattle.state_model.specs.declared.Two.{Two}
-use Rattle.state_model.specs.declared.Two.TheVariants as twos
 use Rattle.std.proofs.Math.Bool.{or_comm}
 use Rattle.state_model.proofs.Booleans.{clash, both_true, eq_true, eq_of, ne_of, or_false, or_false_left, or_false_right, eq_flip}
 use Rattle.state_model.proofs.Numbers.{is_listed-without, was_listed}

@@ -1,9 +1,8 @@
 -- A qubit that is received goes from the front of its queue to its application's handles, and that is the step of the call.
-use Rattle.std.proofs.Common.{ℕ, ◌≡◌, ◌⊎◌, inl, inr, Bool, true, false, cond, not, ◌&&◌, ◌||◌, position, Option, Some, None, IsSome, is_some, is_none, unwrap_or, option_map, refl, sym, ap, subst, ◌∙◌}
-use Rattle.std.specs.Prelude.{IfSome}
+use Rattle.std.proofs.Common.{ℕ, ◌≡◌, Bool, true, false, cond, not, ◌&&◌, position, Option, Some, None, is_none, unwrap_or, option_map, refl, sym, ap, subst, ◌∙◌}
 use Rattle.state_model.proofs.Booleans.{clash}
 use Rattle.cqc_model.specs.declared.PairInfo.{PairInfo}
-use Rattle.network_model.specs.Network.{Network, Shape, line_eq}
+use Rattle.network_model.specs.Network.{Network, Shape}
 use Rattle.network_model.specs.Kinds.{kind_of, second_of, remote_of, is_gate, is_making, is_measurement}
 use Rattle.network_model.specs.Step.{receipt_reply}
 use Rattle.network_model.specs.History.{advance, is_error, is_general}

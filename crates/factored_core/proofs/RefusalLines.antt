@@ -1,13 +1,13 @@
 -- What node cells tell of a refusal, by the call's kind. A call whose own node was read (`IsOpen`) is refused by its cells
 -- (`refused_..`) or is ready to be prepared (`ready_..`); the lines of the order of refusals are met one after the other.
-use Rattle.std.proofs.Common.{◌≡◌, ◌≢◌, ℕ, ◌/◌, ◌%◌, ◌^◌, ◌<◌, ◌≤◌, ◌==◌, nat_lt, Bool, true, false, not, cond, ◌&&◌, List, [], ◌∷◌, length, position, Option, None, Some, IsSome, is_some, is_none, option_map, unwrap_or, refl, sym, ap, subst, ◌∙◌, arith, ltb-true, ltb-false}
+use Rattle.std.proofs.Common.{◌≡◌, ◌≢◌, ℕ, ◌/◌, ◌%◌, ◌^◌, ◌<◌, ◌≤◌, ◌==◌, nat_lt, Bool, true, false, not, cond, ◌&&◌, List, length, position, Option, None, Some, IsSome, is_none, unwrap_or, refl, sym, ap, subst, ◌∙◌, arith, ltb-true, ltb-false}
 use Rattle.std.proofs.lemmas.List.Quantifiers.{position-Some}
 use Rattle.state_model.specs.declared.Two.{Two}
 use Rattle.state_model.specs.declared.Gate.{Gate}
 use Rattle.state_model.specs.declared.Gate.TheVariants as gates
 use Rattle.gate_kernels.specs.Gates.{HasEighths}
 use Rattle.cqc_model.specs.Ranges.{is_in_range}
-use Rattle.state_model.proofs.Booleans.{clash, eq_true, eq_false, ne_of}
+use Rattle.state_model.proofs.Booleans.{eq_true, eq_false, ne_of}
 use Rattle.cqc_model.specs.declared.Fault.{Fault}
 use Rattle.cqc_model.specs.declared.Fault.TheVariants.{General, NoQubit, Unsupported, Timeout, Unknown}
 use Rattle.cqc_model.specs.declared.Instr.{Instr}
@@ -377,6 +377,14 @@ module _ (shape : Shape) (c : Call) (cs : Cells) (own : Node) (open_call : IsOpe
         to_full : shape.room ≤ load_of to → not (nat_lt (load s (remote_node shape c r)) shape.room) ≡ true
         to_full full = ap not (not_less _ _ (subst (λ n. shape.room ≤ n) (sym to_load) full))
 
+  sent_remote : (r : Remote) → kind_of c.command.instr ≡ Send r → remote_of (kind_of c.command.instr) ≡ Some r
+  unfolding remote_of
+  sent_remote r is = ap remote_of is
+
+  pair_remote : (r : Remote) → kind_of c.command.instr ≡ Pair r → remote_of (kind_of c.command.instr) ≡ Some r
+  unfolding remote_of
+  pair_remote r is = ap remote_of is
+
   -- ---- a qubit that is sent
   module _ (r : Remote) (is : kind_of c.command.instr ≡ Send r) (q : ℕ) (held : number_of own.handles c.app c.command.qubit ≡ Some q) where
     sent_lines : (s : Network) → refusal_of shape s c (Send r) ≡ cond (is_none (operand s c c.command.qubit)) (Some Unknown) (cond (remote_node shape c r == c.node) (Some General)
@@ -384,27 +392,23 @@ module _ (shape : Shape) (c : Call) (cs : Cells) (own : Node) (open_call : IsOpe
     unfolding refusal_of first_fault takes_qubit second_of remote_of line_of is_inexact is_making is_pair
     sent_lines s = refl
 
-    sent_remote : remote_of (kind_of c.command.instr) ≡ Some r
-    unfolding remote_of
-    sent_remote = ap remote_of is
-
     pub refused_alone : other_of shape c ≡ None → IsRefusable shape c cs own None General
     unfolding IsRefused refusal is_remote_refusal is_general is_gate
     refused_alone none = refusable None General (sym none) (ap is_gate is) (λ s home standing fit.
-        ap (refusal_of shape s c) is ∙ sent_lines s ∙ passes _ Unknown _ (held_is s home standing fit c.command.qubit q held) ∙ stops _ General _ (here r sent_remote none))
+        ap (refusal_of shape s c) is ∙ sent_lines s ∙ passes _ Unknown _ (held_is s home standing fit c.command.qubit q held) ∙ stops _ General _ (here r (sent_remote r is) none))
 
     module _ (other : ℕ) (there : other_of shape c ≡ Some other) (to : Node) (copied : (w : NodeValues) → cs.node other ≡ Some w → to ≡ w.now) (distinct : AreDistinct to.handles) where
       pub refused_send : shape.room ≤ load_of to → IsRefusable shape c cs own (Some other) NoQubit
       unfolding IsRefused refusal is_remote_refusal is_general
       refused_send full = refusable (Some other) NoQubit (sym there) refl (λ s home standing fit.
-          ap (refusal_of shape s c) is ∙ sent_lines s ∙ passes _ Unknown _ (held_is s home standing fit c.command.qubit q held) ∙ passes _ General _ (away r sent_remote other there)
-          ∙ stops _ NoQubit _ (to_full r sent_remote other there to copied distinct s home standing fit full))
+          ap (refusal_of shape s c) is ∙ sent_lines s ∙ passes _ Unknown _ (held_is s home standing fit c.command.qubit q held) ∙ passes _ General _ (away r (sent_remote r is) other there)
+          ∙ stops _ NoQubit _ (to_full r (sent_remote r is) other there to copied distinct s home standing fit full))
 
       pub ready_send : load_of to < shape.room → IsReady shape c cs own
       unfolding IsFree refusal second_of
       ready_send room = ready_by (ap second_of is) (λ s home standing fit.
-          ap (refusal_of shape s c) is ∙ sent_lines s ∙ passes _ Unknown _ (held_is s home standing fit c.command.qubit q held) ∙ passes _ General _ (away r sent_remote other there)
-          ∙ passes _ NoQubit _ (to_room r sent_remote other there to copied distinct s home standing fit room))
+          ap (refusal_of shape s c) is ∙ sent_lines s ∙ passes _ Unknown _ (held_is s home standing fit c.command.qubit q held) ∙ passes _ General _ (away r (sent_remote r is) other there)
+          ∙ passes _ NoQubit _ (to_room r (sent_remote r is) other there to copied distinct s home standing fit room))
 
   -- ---- a pair
   module _ (r : Remote) (is : kind_of c.command.instr ≡ Pair r) where
@@ -413,36 +417,32 @@ module _ (shape : Shape) (c : Call) (cs : Cells) (own : Node) (open_call : IsOpe
     unfolding refusal_of first_fault takes_qubit second_of remote_of line_of is_inexact is_making is_pair
     pair_lines s = refl
 
-    pair_remote : remote_of (kind_of c.command.instr) ≡ Some r
-    unfolding remote_of
-    pair_remote = ap remote_of is
-
     pub refused_partner : other_of shape c ≡ None → IsRefusable shape c cs own None General
     unfolding IsRefused refusal is_remote_refusal is_general is_gate
-    refused_partner none = refusable None General (sym none) (ap is_gate is) (λ s home standing fit. ap (refusal_of shape s c) is ∙ pair_lines s ∙ stops _ General _ (here r pair_remote none))
+    refused_partner none = refusable None General (sym none) (ap is_gate is) (λ s home standing fit. ap (refusal_of shape s c) is ∙ pair_lines s ∙ stops _ General _ (here r (pair_remote r is) none))
 
     module _ (other : ℕ) (there : other_of shape c ≡ Some other) (to : Node) (copied : (w : NodeValues) → cs.node other ≡ Some w → to ≡ w.now) (distinct : AreDistinct to.handles) where
       pub refused_own_room : shape.room ≤ load_of own → IsRefusable shape c cs own (Some other) NoQubit
       unfolding IsRefused refusal is_remote_refusal is_general
       refused_own_room full = refusable (Some other) NoQubit (sym there) refl (λ s home standing fit.
-          ap (refusal_of shape s c) is ∙ pair_lines s ∙ passes _ General _ (away r pair_remote other there) ∙ stops _ NoQubit _ (own_full s home standing fit full))
+          ap (refusal_of shape s c) is ∙ pair_lines s ∙ passes _ General _ (away r (pair_remote r is) other there) ∙ stops _ NoQubit _ (own_full s home standing fit full))
 
       module _ (room : load_of own < shape.room) where
         pub refused_other_room : shape.room ≤ load_of to → IsRefusable shape c cs own (Some other) NoQubit
         unfolding IsRefused refusal is_remote_refusal is_general
         refused_other_room full = refusable (Some other) NoQubit (sym there) refl (λ s home standing fit.
-            ap (refusal_of shape s c) is ∙ pair_lines s ∙ passes _ General _ (away r pair_remote other there) ∙ passes _ NoQubit _ (own_room s home standing fit room)
-            ∙ stops _ NoQubit _ (to_full r pair_remote other there to copied distinct s home standing fit full))
+            ap (refusal_of shape s c) is ∙ pair_lines s ∙ passes _ General _ (away r (pair_remote r is) other there) ∙ passes _ NoQubit _ (own_room s home standing fit room)
+            ∙ stops _ NoQubit _ (to_full r (pair_remote r is) other there to copied distinct s home standing fit full))
 
         module _ (to_free : load_of to < shape.room) where
           pub refused_limit : shape.limit < 2 → IsRefusable shape c cs own (Some other) General
           unfolding IsRefused refusal is_remote_refusal is_general is_gate
           refused_limit few = refusable (Some other) General (sym there) (ap is_gate is) (λ s home standing fit.
-              ap (refusal_of shape s c) is ∙ pair_lines s ∙ passes _ General _ (away r pair_remote other there) ∙ passes _ NoQubit _ (own_room s home standing fit room)
-              ∙ passes _ NoQubit _ (to_room r pair_remote other there to copied distinct s home standing fit to_free) ∙ stops _ General _ (is_less _ _ few))
+              ap (refusal_of shape s c) is ∙ pair_lines s ∙ passes _ General _ (away r (pair_remote r is) other there) ∙ passes _ NoQubit _ (own_room s home standing fit room)
+              ∙ passes _ NoQubit _ (to_room r (pair_remote r is) other there to copied distinct s home standing fit to_free) ∙ stops _ General _ (is_less _ _ few))
 
           pub ready_pair : 2 ≤ shape.limit → IsReady shape c cs own
           unfolding IsFree refusal second_of
           ready_pair two = ready_by (ap second_of is) (λ s home standing fit.
-              ap (refusal_of shape s c) is ∙ pair_lines s ∙ passes _ General _ (away r pair_remote other there) ∙ passes _ NoQubit _ (own_room s home standing fit room)
-              ∙ passes _ NoQubit _ (to_room r pair_remote other there to copied distinct s home standing fit to_free) ∙ passes _ General _ (not_less _ _ two))
+              ap (refusal_of shape s c) is ∙ pair_lines s ∙ passes _ General _ (away r (pair_remote r is) other there) ∙ passes _ NoQubit _ (own_room s home standing fit room)
+              ∙ passes _ NoQubit _ (to_room r (pair_remote r is) other there to copied distinct s home standing fit to_free) ∙ passes _ General _ (not_less _ _ two))

@@ -1,8 +1,7 @@
 -- A call that cells of nodes refuse changes nothing; it touches its own node, and the other one where that was looked at.
-use Rattle.std.proofs.Common.{ℕ, ◌≡◌, ◌==◌, ◌%◌, Bool, true, false, cond, ◌&&◌, ◌||◌, Option, Some, None, IsSome, is_some, is_none, unwrap_or, refl, sym, ap, subst, ◌∙◌}
+use Rattle.std.proofs.Common.{ℕ, ◌≡◌, ◌==◌, Bool, true, false, cond, ◌&&◌, ◌||◌, Option, Some, None, IsSome, unwrap_or, refl, sym, ap, subst, ◌∙◌}
 use Rattle.std.specs.Prelude.{MatchOption, IfSome}
 use Rattle.cqc_model.specs.declared.Fault.{Fault}
-use Rattle.cqc_model.specs.declared.Fault.TheVariants.{General, Unsupported, Unknown}
 use Rattle.network_model.specs.Network.{Network, Shape}
 use Rattle.network_model.specs.Kinds.{kind_of, is_gate}
 use Rattle.network_model.specs.Step.{holds_of}
@@ -10,7 +9,6 @@ use Rattle.network_model.specs.History.{IsLegalEntry, advance, is_error, is_gene
 use Rattle.network_model.specs.Factored.{FitsNode, touches_slot, touches_pool, homes_step, operand_in_slot, is_remote_refusal}
 use Rattle.network_model.specs.declared.Call.{Call}
 use Rattle.network_model.specs.declared.CoreReply.TheVariants as reply
-use Rattle.qubit_handles.specs.Handle.{number_of}
 use Rattle.virtual_node.specs.Node.{Node, held_map, arrived_map}
 use Rattle.cell_laws.specs.Standing.{IsStanding}
 use Rattle.core_cells.specs.Cells.{Cells, CellsFit, put_node}
@@ -19,9 +17,8 @@ use Rattle.factored_core.specs.Changes.{changed, change_at, with_next_node, IsSt
 use Rattle.factored_core.specs.Needs.{other_of}
 use Rattle.factored_core.specs.Ready.{IsRefusable}
 use Rattle.factored_core.specs.Replies.{in_nodes}
-use Rattle.factored_core.specs.Vacancies.{touched_by}
 use Rattle.core_cells.proofs.Presence.{all_there}
-use Rattle.factored_core.proofs.Changed.{changed-node_at, node_still, some_there, there_is}
+use Rattle.factored_core.proofs.Changed.{changed-node_at, some_there, there_is}
 use Rattle.factored_core.proofs.Legal.{reply_refused, refused_draws_none, legal_entry}
 use Rattle.factored_core.proofs.GateSteps.{said}
 use Rattle.factored_core.proofs.Touched.{refused_touches, of_nodes, numbers_of, nodes_are, named_in_nodes, one_node, two_nodes}

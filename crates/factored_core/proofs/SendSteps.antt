@@ -1,5 +1,5 @@
 -- A qubit that is sent goes from its holder's handles to the end of the other node's queue, and that is the step of the call.
-use Rattle.std.proofs.Common.{ℕ, ◌≡◌, ◌≢◌, ◌<◌, ◌≤◌, ◌==◌, false, ◌||◌, Option, Some, None, IsSome, unwrap_or, refl, sym, ap, subst, ◌∙◌, arith}
+use Rattle.std.proofs.Common.{ℕ, ◌≡◌, ◌≢◌, ◌==◌, false, ◌||◌, Option, Some, None, IsSome, unwrap_or, refl, sym, ap, subst, ◌∙◌}
 use Rattle.std.specs.Prelude.{IsSomeAnd}
 use Rattle.cqc_model.specs.declared.Remote.{Remote}
 use Rattle.network_model.specs.Network.{Network, Shape}
@@ -11,7 +11,7 @@ use Rattle.network_model.specs.declared.Call.{Call}
 use Rattle.network_model.specs.declared.Kind.TheVariants.{Send}
 use Rattle.network_model.specs.declared.CoreReply.TheVariants as reply
 use Rattle.qubit_handles.specs.Handle.{number_of}
-use Rattle.virtual_node.specs.Node.{Node, load_of, held_map, arrived_map, without_held, with_arrival}
+use Rattle.virtual_node.specs.Node.{Node, held_map, arrived_map, without_held, with_arrival}
 use Rattle.epr_transfer.specs.Transfer.{sent_to}
 use Rattle.cell_laws.specs.Standing.{IsStanding}
 use Rattle.core_cells.specs.Cells.{Cells, CellsFit, put_node}

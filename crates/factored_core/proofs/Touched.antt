@@ -19,7 +19,7 @@ use Rattle.factored_core.specs.Needs.{other_than, other_at, other_of}
 use Rattle.factored_core.specs.Replies.{in_nodes}
 use Rattle.factored_core.specs.Vacancies.{touched_by}
 use Rattle.factored_core.proofs.Changed.{changed-none, node_prepared}
-use Rattle.factored_core.proofs.ChangeLists.{change_nil, change_cons, number_one}
+use Rattle.factored_core.proofs.ChangeLists.{change_one, change_cons, number_one}
 use Rattle.core_cells.proofs.Presence.{maybe_node, no_node_is_pool, no_node_is_slot}
 use Rattle.factored_core.proofs.TwoSteps.{number_two}
 
@@ -92,8 +92,8 @@ numbers_of node own (Some n) next m = sym (number_two node n own next m)
 -- what holds of each of them
 pub nodes_are : (P : ℕ → Node → Type 0) (node : ℕ) (own : Node) (o : Option ℕ) (next : Node) → P node own → ((n : ℕ) → o ≡ Some n → P n next)
     → (m : ℕ) (v : Node) → change_at (with_other node own o next) m ≡ Some v → P m v
-nodes_are P node own None next here there = change_cons P node own [] here (change_nil P)
-nodes_are P node own (Some n) next here there = change_cons P n next ((node, own) ∷ []) (there n refl) (change_cons P node own [] here (change_nil P))
+nodes_are P node own None next here there = change_one P node own here
+nodes_are P node own (Some n) next here there = change_cons P n next ((node, own) ∷ []) (there n refl) (change_one P node own here)
 
 pub named_in_nodes : (c : Call) (own : Node) (r : CoreReply) (o : Option ℕ) (next : Node) → AreNamed (in_nodes c r o) (of_nodes c.node own o next)
 named_in_nodes c own r o next = record {

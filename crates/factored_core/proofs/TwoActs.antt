@@ -1,5 +1,5 @@
 -- Gates on two qubits on a board: what was prepared is the step of the call.
-use Rattle.std.proofs.Common.{◌||◌, ℕ, zero, suc, ◌≡◌, ◌≢◌, ◌≤◌, ◌<◌, ◌^◌, ◌+◌, ◌*◌, ◌==◌, Bool, true, false, List, [], ◌∷◌, ◌++◌, length, slice_index_or, Option, Some, None, IsSome, is_some, nat_abs, refl, sym, ap, subst, ◌∙◌, arith, length-append}
+use Rattle.std.proofs.Common.{◌||◌, ℕ, zero, suc, ◌≡◌, ◌≢◌, ◌≤◌, ◌<◌, ◌^◌, ◌+◌, ◌*◌, ◌==◌, true, false, List, [], ◌∷◌, ◌++◌, length, slice_index_or, Option, Some, None, IsSome, is_some, nat_abs, refl, sym, ap, subst, ◌∙◌, arith, length-append}
 use Rattle.state_model.specs.Amplitudes.{Amplitudes, vector_of, qubit_at}
 use Rattle.state_model.specs.Registers.{register_vector, product_over}
 use Rattle.state_model.specs.StateVector.{IsSameState}

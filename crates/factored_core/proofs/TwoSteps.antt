@@ -1,11 +1,10 @@
 -- A gate on two qubits, prepared in their slots, is the step of the call: in one register, over two that become one, or refused.
-use Rattle.std.proofs.Common.{ℕ, ◌≡◌, ◌≢◌, ◌<◌, ◌≤◌, ◌^◌, ◌+◌, ◌==◌, nat_lt, Bool, true, false, cond, not, ◌&&◌, ◌||◌, List, [], ◌∷◌, ◌++◌, length, Option, Some, None, is_some, is_none, unwrap_or, refl, sym, ap, subst, ◌∙◌, arith, ltb-true}
+use Rattle.std.proofs.Common.{ℕ, ◌≡◌, ◌≢◌, ◌<◌, ◌≤◌, ◌^◌, ◌+◌, ◌==◌, nat_lt, Bool, true, false, cond, not, ◌&&◌, ◌||◌, List, [], ◌∷◌, ◌++◌, length, Option, Some, None, is_some, is_none, unwrap_or, refl, sym, ap, subst, ◌∙◌}
 use Rattle.state_model.specs.Row.{is_listed}
 use Rattle.state_model.specs.Amplitudes.{Amplitudes}
 use Rattle.state_model.specs.StateVector.{IsSameState, IsSize}
 use Rattle.state_model.specs.Registers.{Register, register_vector, product_over}
 use Rattle.state_model.specs.Gate.{two_gate}
-use Rattle.state_model.specs.declared.Gate.{Gate}
 use Rattle.state_model.specs.declared.Two.{Two}
 use Rattle.std.proofs.Math.Bool.{or_comm}
 use Rattle.state_model.proofs.Booleans.{eq_true, eq_false, eq_flip}
@@ -35,7 +34,7 @@ use Rattle.factored_core.specs.Ready.{IsReady}
 use Rattle.factored_core.specs.Pairs.{AreSpots}
 use Rattle.factored_core.specs.declared.slots.Spot.{Spot}
 use Rattle.factored_core.proofs.FreeLists.{less_true}
-use Rattle.factored_core.proofs.ChangeLists.{change_nil, change_cons, number_cons, number_one}
+use Rattle.factored_core.proofs.ChangeLists.{change_one, change_cons, number_cons, number_one}
 use Rattle.factored_core.proofs.Operands.{own_fits, operand_is, own_number_is, other_number_is, operand_lives, spot_home, spot_fits}
 use Rattle.factored_core.proofs.Legal.{reply_done, reply_too_large, reply_refused, legal_entry, other_draws_none}
 use Rattle.factored_core.proofs.Locals.{own_touched}
@@ -160,10 +159,9 @@ module _ (shape : Shape) (c : Call) (cs : Cells) (own : Node) (ready : IsReady s
         nodes_touched = own_touched shape c own None reply.Silent local;
         pool_touched = ap (effect_touches_pool s c) (at.call).kind ∙ ap not (same_labels true (eq_true _ _ same_home));
         slots_touched = λ t. one_slot t ∙ sym (number_one one.slot a t);
-        nodes = change_cons (λ m n. FitsNode ((effect shape s c 0).state) m (held_map n) (arrived_map n)) c.node own [] own_kept (change_nil (λ m n. FitsNode ((effect shape s c 0).state) m (held_map n) (arrived_map n)));
+        nodes = change_one (λ m n. FitsNode ((effect shape s c 0).state) m (held_map n) (arrived_map n)) c.node own own_kept;
         pool = λ p e. absurd (no_some p e);
-        slots = change_cons (λ t b. FitsSlot shape ((effect shape s c 0).state) (homes_by s home c (kind_of c.command.instr)) t (register_with shape.limit b)) one.slot a [] fits
-            (change_nil (λ t b. FitsSlot shape ((effect shape s c 0).state) (homes_by s home c (kind_of c.command.instr)) t (register_with shape.limit b)));
+        slots = change_one (λ t b. FitsSlot shape ((effect shape s c 0).state) (homes_by s home c (kind_of c.command.instr)) t (register_with shape.limit b)) one.slot a fits;
       }
 
       inside_legal : IsLegalEntry shape s (said c reply.Silent)
@@ -201,13 +199,12 @@ module _ (shape : Shape) (c : Call) (cs : Cells) (own : Node) (ready : IsReady s
         nodes_touched = own_touched shape c own None (reply.Error General) local;
         pool_touched = refl;
         slots_touched = λ t. ap (λ (b : Bool). b && operand_in_slot s home c t (kind_of c.command.instr)) gated ∙ both_slots t ∙ sym (number_two one.slot two.slot a b t);
-        nodes = change_cons (λ m n. FitsNode s m (held_map n) (arrived_map n)) c.node own [] (own_fits shape c cs own ready s home standing fit) (change_nil (λ m n. FitsNode s m (held_map n) (arrived_map n)));
+        nodes = change_one (λ m n. FitsNode s m (held_map n) (arrived_map n)) c.node own (own_fits shape c cs own ready s home standing fit);
         pool = λ p e. absurd (no_some p e);
         slots = change_cons (λ t b. FitsSlot shape s home t (register_with shape.limit b)) two.slot b ((one.slot, a) ∷ [])
             (kept two ((at.second_spot).cell) (at.second_spot).there there.limit b same_b)
-            (change_cons (λ t b. FitsSlot shape s home t (register_with shape.limit b)) one.slot a []
-            (kept one ((at.first_spot).cell) (at.first_spot).there here.limit a same_a)
-            (change_nil (λ t b. FitsSlot shape s home t (register_with shape.limit b))));
+            (change_one (λ t b. FitsSlot shape s home t (register_with shape.limit b)) one.slot a
+            (kept one ((at.first_spot).cell) (at.first_spot).there here.limit a same_a));
       }
         where
           gated : is_gate (kind_of c.command.instr) ≡ true
@@ -257,11 +254,10 @@ module _ (shape : Shape) (c : Call) (cs : Cells) (own : Node) (ready : IsReady s
         nodes_touched = own_touched shape c own None reply.Silent local;
         pool_touched = ap (effect_touches_pool s c) (at.call).kind ∙ ap not (same_labels false (eq_false _ _ homes_apart));
         slots_touched = λ t. ap (effect_touches_slot s home c t) (at.call).kind ∙ ap (λ n. (n == t) || (home (other_number s c id) == t)) at_one ∙ ap (λ n. (one.slot == t) || (n == t)) at_two ∙ sym (number_two one.slot two.slot a no_qubit t);
-        nodes = change_cons (λ m n. FitsNode ((effect shape s c 0).state) m (held_map n) (arrived_map n)) c.node own [] own_kept (change_nil (λ m n. FitsNode ((effect shape s c 0).state) m (held_map n) (arrived_map n)));
+        nodes = change_one (λ m n. FitsNode ((effect shape s c 0).state) m (held_map n) (arrived_map n)) c.node own own_kept;
         pool = λ q e. subst (λ (o : Pool). FitsPool shape ((effect shape s c 0).state) (homes_by s home c (kind_of c.command.instr)) o.numbers o.slots o.pairs) (same_pool p q e) fits_pool;
         slots = change_cons (λ t b. FitsSlot shape ((effect shape s c 0).state) (homes_by s home c (kind_of c.command.instr)) t (register_with shape.limit b)) two.slot no_qubit ((one.slot, a) ∷ []) emptied_slot
-            (change_cons (λ t b. FitsSlot shape ((effect shape s c 0).state) (homes_by s home c (kind_of c.command.instr)) t (register_with shape.limit b)) one.slot a [] fits
-            (change_nil (λ t b. FitsSlot shape ((effect shape s c 0).state) (homes_by s home c (kind_of c.command.instr)) t (register_with shape.limit b))));
+            (change_one (λ t b. FitsSlot shape ((effect shape s c 0).state) (homes_by s home c (kind_of c.command.instr)) t (register_with shape.limit b)) one.slot a fits);
       }
         where
           same_pool : (p q : Pool) → Some p ≡ Some q → p ≡ q

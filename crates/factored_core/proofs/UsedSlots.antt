@@ -10,6 +10,7 @@ use Rattle.network_model.specs.Factored.{used_slots, moved, gathered}
 use Rattle.network_model.specs.Step.{least_free}
 use Rattle.network_model.proofs.Added.{least_free_high}
 use Rattle.network_model.proofs.Filters.{filter_once}
+use Rattle.network_model.proofs.Homes.{at_moved, moved_other}
 use Rattle.factored_core.proofs.Loads.{least_free_same}
 use Rattle.factored_core.proofs.FreeLists.{both_ways, listed_with}
 
@@ -32,15 +33,6 @@ map_same f g [] h = refl
 map_same f g (x ∷ xs) h =
     ap (λ y. y ∷ map f xs) (h x (ap (λ b. b || is_listed xs x) (eq_true x x refl)))
     ∙ ap (λ l. g x ∷ l) (map_same f g xs (λ y i. h y (ap (λ b. (x == y) || b) i ∙ or_true (x == y))))
-
--- a number that moved is at its new slot, and the others are where they were
-pub moved_self : (home : ℕ → ℕ) (q slot : ℕ) → moved home q slot q ≡ slot
-unfolding moved
-moved_self home q slot = ap (λ t. cond t slot (home q)) (eq_true q q refl)
-
-pub moved_other : (home : ℕ → ℕ) (q slot x : ℕ) → x ≢ q → moved home q slot x ≡ home x
-unfolding moved
-moved_other home q slot x e = ap (λ t. cond t slot (home x)) (eq_false x q e)
 
 still_listed : (live : List ℕ) (q x : ℕ) → is_listed live x ≡ true → x ≢ q → is_listed (without live q) x ≡ true
 still_listed live q x i e = is_listed-without live q x ∙ ap (λ b. b && not (x == q)) i ∙ ap not (eq_false x q e)
@@ -77,7 +69,7 @@ module _ (live : List ℕ) (home : ℕ → ℕ) where
   used_with p slot new t =
       ap (λ l. is_listed l t) (map-append (moved home p slot) live (p ∷ [])
       ∙ ap (λ l. l ++ moved home p slot p ∷ []) (map_same (moved home p slot) home live (λ x i. moved_other home p slot x (λ e. clash (sym i ∙ ap (is_listed live) e ∙ new))))
-      ∙ ap (λ n. map home live ++ n ∷ []) (moved_self home p slot))
+      ∙ ap (λ n. map home live ++ n ∷ []) (at_moved home p slot))
       ∙ listed_with (map home live) slot t
 
   -- the one number of a slot goes
@@ -118,7 +110,7 @@ module _ (live : List ℕ) (home : ℕ → ℕ) where
     used_moved_beside slot live_q t = both_ways _ _ to from
       where
         at : (x : ℕ) → is_listed live x ≡ true → moved home q slot x ≡ t → (b : Bool) → (x == q) ≡ b → (is_listed (used_slots live home) t || (t == slot)) ≡ true
-        at x i e true f = ap (λ b. is_listed (used_slots live home) t || b) (eq_true t slot (sym e ∙ ap (moved home q slot) (eq_of x q f) ∙ moved_self home q slot)) ∙ or_true (is_listed (used_slots live home) t)
+        at x i e true f = ap (λ b. is_listed (used_slots live home) t || b) (eq_true t slot (sym e ∙ ap (moved home q slot) (eq_of x q f) ∙ at_moved home q slot)) ∙ or_true (is_listed (used_slots live home) t)
         at x i e false f = ap (λ b. b || (t == slot)) (used_by live home t x i (sym (moved_other home q slot x (ne_of x q f)) ∙ e))
 
         to : is_listed (used_slots live (moved home q slot)) t ≡ true → (is_listed (used_slots live home) t || (t == slot)) ≡ true
@@ -130,7 +122,7 @@ module _ (live : List ℕ) (home : ℕ → ℕ) where
 
         back : (b : Bool) → is_listed (used_slots live home) t ≡ b → (is_listed (used_slots live home) t || (t == slot)) ≡ true → is_listed (used_slots live (moved home q slot)) t ≡ true
         back true f h = let user = user_of live home t f in by (user.0) (user.1) (user.2) (user.0 == q) refl
-        back false f h = used_by live (moved home q slot) t q live_q (moved_self home q slot ∙ sym (eq_of t slot (sym (ap (λ b. b || (t == slot)) f) ∙ h)))
+        back false f h = used_by live (moved home q slot) t q live_q (at_moved home q slot ∙ sym (eq_of t slot (sym (ap (λ b. b || (t == slot)) f) ∙ h)))
 
         from : (is_listed (used_slots live home) t || (t == slot)) ≡ true → is_listed (used_slots live (moved home q slot)) t ≡ true
         from h = back (is_listed (used_slots live home) t) refl h

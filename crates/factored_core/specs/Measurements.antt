@@ -1,5 +1,5 @@
 -- Measurements of a held qubit: what is known of it, what is answered, and what becomes of the pool.
-use Rattle.std.specs.Prelude.{ℕ, ◌≡◌, ◌^◌, ◌<◌, ◌==◌, Bool, true, false, ◌&&◌, ◌||◌, [], ◌∷◌, length, Option, None, Some, option_map}
+use Rattle.std.specs.Prelude.{ℕ, ◌≡◌, ◌^◌, ◌<◌, ◌==◌, Bool, false, ◌&&◌, ◌||◌, [], ◌∷◌, length, Option, None, Some, option_map}
 use Rattle.state_model.specs.Row.{is_listed}
 use Rattle.state_model.specs.Amplitudes.{vector_of}
 use Rattle.state_model.specs.Measurement.{draw}

@@ -1,5 +1,5 @@
 -- Replies and prepared steps, by what was done.
-use Rattle.std.specs.Prelude.{ℕ, Bool, false, true, cond, [], ◌∷◌, Result, Ok, Err, Option, None, Some, option_map}
+use Rattle.std.specs.Prelude.{ℕ, Bool, cond, [], ◌∷◌, Result, Ok, Err, Option, None, Some, option_map}
 use Rattle.amplitude_register.specs.declared.register.TooLarge.{TooLarge}
 use Rattle.cqc_model.specs.declared.Fault.TheVariants.{General}
 use Rattle.network_model.specs.declared.Call.{Call}

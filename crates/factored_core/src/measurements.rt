@@ -106,7 +106,8 @@ fn taken_out<B: Board>(
     step_of(call, measured, None)
 }
 
-/// The measured qubit stays with a value of its own.
+/// The measured qubit stays with a value of its own: in its slot where it is alone, else in the least free slot, and
+/// the others stay.
 fn left<B: Board>(
     board: &mut B,
     shape: &Shape,
@@ -120,53 +121,14 @@ fn left<B: Board>(
     ensures step { IsPreparedStep shape.now (B.cells board.old) (B.cells board.new) result }
     ensures entry { result.entry ≡ measured_entry call.now measured }
 {
-    if measured.alone {
-        left_alone(board, shape, call, own, measured, value)
-    } else {
-        moved_out(board, shape, call, own, measured, value)
-    }
-}
-
-/// The measured qubit stays in its slot, where it is alone, with a value of its own.
-fn left_alone<B: Board>(
-    board: &mut B,
-    shape: &Shape,
-    call: &Call,
-    own: &NodeCell,
-    measured: Measured,
-    value: bool,
-) -> Prepared
-    requires measured { HasMeasured shape.now call.now (B.cells board.old) own.now measured }
-    requires left { IsLeftAs call.now measured value }
-    requires alone { measured.alone ≡ true }
-    ensures step { IsPreparedStep shape.now (B.cells board.old) (B.cells board.new) result }
-    ensures entry { result.entry ≡ measured_entry call.now measured }
-{
-    shape.facts();
-    let pool = held_pool(board);
-    prepare_node(board, call.node, own);
-    prepare_pool(board, pool);
-    slots::set(board, measured.spot.slot, measured.number, value);
-    step_of(call, measured, None)
-}
-
-/// The measured qubit moves to the least free slot, with a value of its own, and the others stay.
-fn moved_out<B: Board>(
-    board: &mut B,
-    shape: &Shape,
-    call: &Call,
-    own: &NodeCell,
-    measured: Measured,
-    value: bool,
-) -> Prepared
-    requires measured { HasMeasured shape.now call.now (B.cells board.old) own.now measured }
-    requires left { IsLeftAs call.now measured value }
-    requires alone { measured.alone ≡ false }
-    ensures step { IsPreparedStep shape.now (B.cells board.old) (B.cells board.new) result }
-    ensures entry { result.entry ≡ measured_entry call.now measured }
-{
     shape.facts();
     let mut pool = held_pool(board);
+    if measured.alone {
+        prepare_node(board, call.node, own);
+        prepare_pool(board, pool);
+        slots::set(board, measured.spot.slot, measured.number, value);
+        return step_of(call, measured, None);
+    }
     pool.facts();
     let Some(slot) = pool.least_free_slot() else {
         unreachable!()

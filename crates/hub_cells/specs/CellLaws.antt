@@ -7,14 +7,15 @@ use Rattle.state_model.specs.Registers.{Register, register_vector}
 use Rattle.state_model.proofs.Parts.{part_unique, part_along}
 use Rattle.cell_laws.proofs.Lengths.{HaveSameMembers, part_members}
 use Rattle.network_model.proofs.Soundness.{legal_histories_are_sound}
-use Rattle.network_model.specs.Network.{Shape}
+use Rattle.network_model.specs.Network.{Network, Shape}
 use Rattle.network_model.specs.History.{IsLegal, after}
 use Rattle.network_model.specs.Factored.{FitsNode, FitsPool, FitsSlot, homes_after, touches_node, touches_pool, touches_slot}
 use Rattle.network_model.specs.declared.Entry.{Entry}
 use Rattle.network_model.proofs.HistoryLaws.{slots_fit_legal_histories, nodes_fit_legal_histories, pool_fits_legal_histories}
-use Rattle.virtual_node.specs.Node.{held_map, arrived_map}
+use Rattle.virtual_node.specs.Node.{Node as NodeIs, held_map, arrived_map}
 use Rattle.core_cells.specs.Cells.{forgotten_node, forgotten_pool, forgotten_slot, register_of}
 use Rattle.core_cells.specs.Nodes.{NodeValues}
+use Rattle.core_cells.specs.Pool.{Pool as PoolIs}
 use Rattle.core_cells.specs.declared.cells.PoolPair.{PoolPair}
 use Rattle.core_cells.specs.declared.cells.SlotCell.{SlotCell}
 use Rattle.commit_journal.specs.Touching.{touches}
@@ -124,6 +125,16 @@ untouched_stays shape n c h e limit legal fits missed = record {
 }
 
 -- ---- values that fit one history alike fit every history alike
+alike_node : (s t : Network) (n : ℕ) (v w : NodeIs) → FitsNode s n (held_map v) (arrived_map v) → FitsNode s n (held_map w) (arrived_map w) → FitsNode t n (held_map v) (arrived_map v) → FitsNode t n (held_map w) (arrived_map w)
+alike_node s t n v w a b e = record { handles = λ app id. b.handles app id ∙ sym (a.handles app id) ∙ e.handles app id; queues = λ app line. b.queues app line ∙ sym (a.queues app line) ∙ e.queues app line }
+
+alike_pool : (shape : Shape) (s t : Network) (f g : ℕ → ℕ) (v w : PoolIs) → FitsPool shape s f v.numbers v.slots v.pairs → FitsPool shape s f w.numbers w.slots w.pairs → FitsPool shape t g v.numbers v.slots v.pairs → FitsPool shape t g w.numbers w.slots w.pairs
+alike_pool shape s t f g v w a b e = record {
+  numbers_free = λ q. b.numbers_free q ∙ sym (a.numbers_free q) ∙ e.numbers_free q;
+  slots_free = λ u. b.slots_free u ∙ sym (a.slots_free u) ∙ e.slots_free u;
+  made = b.made ∙ sym a.made ∙ e.made;
+}
+
 module _ (shape : Shape) (h k : List Entry) (limit : 1 ≤ shape.limit) (legal : IsLegal shape h) (t : ℕ) (r u : Register)
     (r_h : FitsSlot shape (after shape h) (homes_after shape h) t r) (u_h : FitsSlot shape (after shape h) (homes_after shape h) t u) (r_k : FitsSlot shape (after shape k) (homes_after shape k) t r) where
   members : HaveSameMembers r.qubits u.qubits
@@ -148,41 +159,18 @@ module _ (shape : Shape) (h k : List Entry) (limit : 1 ≤ shape.limit) (legal :
   }
 
 pub alike_fits : (shape : Shape) (n : ℕ) (c d : Cell) (h k : List Entry) → 1 ≤ shape.limit → IsLegal shape h → FitsCell shape n c h → FitsCell shape n d h → FitsCell shape n c k → FitsCell shape n d k
-alike_fits shape n (Node v) d h k limit legal c_h d_h c_k = record {
-  node = λ w is.
-      let a = c_h.node v refl in
-      let b = d_h.node w is in
-      let e = c_k.node v refl in (
-        e.0,
-        record {
-          handles = λ app id. b.1.handles app id ∙ sym (a.1.handles app id) ∙ e.1.handles app id;
-          queues = λ app line. b.1.queues app line ∙ sym (a.1.queues app line) ∙ e.1.queues app line;
-        },
-      );
-  pool = λ w is. let a = c_h.node v refl in let b = d_h.pool w is in absurd (omega (arith, a.0, b.0));
-  slot = λ w is. let a = c_h.node v refl in let b = d_h.slot w is in absurd (omega (arith, a.0, b.0));
+alike_fits shape n (Node v) d h k limit legal c_h d_h c_k = let a = c_h.node v refl in let e = c_k.node v refl in record {
+  node = λ w is. let b = d_h.node w is in (e.0, alike_node (after shape h) (after shape k) n v.now w.now a.1 b.1 e.1);
+  pool = λ w is. let b = d_h.pool w is in absurd (omega (arith, a.0, b.0));
+  slot = λ w is. let b = d_h.slot w is in absurd (omega (arith, a.0, b.0));
 }
-alike_fits shape n (Pool v) d h k limit legal c_h d_h c_k = record {
-  node = λ w is. let a = c_h.pool v refl in let b = d_h.node w is in absurd (omega (arith, a.0, b.0));
-  pool = λ w is.
-      let a = c_h.pool v refl in
-      let b = d_h.pool w is in
-      let e = c_k.pool v refl in (
-        e.0,
-        record {
-          numbers_free = λ q. b.1.numbers_free q ∙ sym (a.1.numbers_free q) ∙ e.1.numbers_free q;
-          slots_free = λ t. b.1.slots_free t ∙ sym (a.1.slots_free t) ∙ e.1.slots_free t;
-          made = b.1.made ∙ sym a.1.made ∙ e.1.made;
-        },
-      );
-  slot = λ w is. let a = c_h.pool v refl in let b = d_h.slot w is in absurd (omega (arith, a.0, b.0));
+alike_fits shape n (Pool v) d h k limit legal c_h d_h c_k = let a = c_h.pool v refl in let e = c_k.pool v refl in record {
+  node = λ w is. let b = d_h.node w is in absurd (omega (arith, a.0, b.0));
+  pool = λ w is. let b = d_h.pool w is in (e.0, alike_pool shape (after shape h) (after shape k) (homes_after shape h) (homes_after shape k) v.now w.now a.1 b.1 e.1);
+  slot = λ w is. let b = d_h.slot w is in absurd (omega (arith, a.0, b.0));
 }
-alike_fits shape n (Slot v) d h k limit legal c_h d_h c_k = record {
-  node = λ w is. let a = c_h.slot v refl in let b = d_h.node w is in absurd (omega (arith, a.0, b.0));
-  pool = λ w is. let a = c_h.slot v refl in let b = d_h.pool w is in absurd (omega (arith, a.0, b.0));
-  slot = λ w is.
-      let a = c_h.slot v refl in
-      let b = d_h.slot w is in
-      let e = c_k.slot v refl in
-      (e.0, alike_slot shape h k limit legal (n - (length shape.places + 1)) (register_of v.register) (register_of w.register) a.1 b.1 e.1);
+alike_fits shape n (Slot v) d h k limit legal c_h d_h c_k = let a = c_h.slot v refl in let e = c_k.slot v refl in record {
+  node = λ w is. let b = d_h.node w is in absurd (omega (arith, a.0, b.0));
+  pool = λ w is. let b = d_h.pool w is in absurd (omega (arith, a.0, b.0));
+  slot = λ w is. let b = d_h.slot w is in (e.0, alike_slot shape h k limit legal (n - (length shape.places + 1)) (register_of v.register) (register_of w.register) a.1 b.1 e.1);
 }

@@ -1,7 +1,6 @@
 use Rattle.std.proofs.Common.{sym, subst, IsSome}
 use Rattle.factored_core.specs.Changes.{IsPreparedStep}
 use Rattle.factored_core.specs.declared.prepared.Prepared.{Prepared}
-use Rattle.qubit_handles.specs.Handle.{AreDistinct}
 use Rattle.core_cells.specs.Cells.{Cells}
 use Rattle.factored_core.proofs.Vacant.{pool_there, number_free, slot_free}
 use Rattle.factored_core.proofs.MakeSteps.{new_touches, new_leaves_node, new_leaves_slot, new_prepared}

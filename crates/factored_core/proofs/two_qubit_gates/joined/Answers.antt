@@ -25,36 +25,31 @@ gate-requires-clause-there g c = product_there _ _ _ _ c.requires.ready _ _ _ c.
 
 pub gate-requires-clause-places : goal.gate-requires-clause-places
 gate-requires-clause-places g c =
-    let at = c.requires.spots in
     product_places _ _ _ _ c.requires.ready _ _ _ c.requires.spots c.requires.apart _ (c.freed-pool.ensures.same ∙ c.count-count.ensures.same) _ c.merge.ensures
-    _ (c.count-count.ensures.count (at.first_spot).cell (at.first_spot).there)
+    _ (c.count-count.ensures.count _ (c.requires.spots.first_spot).there)
 
 pub empty-requires : goal.empty-requires
 empty-requires g c =
-    let at = c.requires.spots in
     other_there _ _ _ _ c.requires.ready _ _ _ c.requires.spots c.requires.apart _ (c.freed-pool.ensures.same ∙ c.count-count.ensures.same) _ c.merge.ensures
-    _ (c.count-count.ensures.count (at.first_spot).cell (at.first_spot).there) _ c.gate.ensures
+    _ (c.count-count.ensures.count _ (c.requires.spots.first_spot).there) _ c.gate.ensures
 
 pub prepare_pool-requires : goal.prepare_pool-requires
 prepare_pool-requires g c =
-    let at = c.requires.spots in
     let w = pool_cell _ _ _ _ c.requires.ready _ _ _ c.requires.spots in
     pool_there _ _ _ _ c.requires.ready _ _ _ c.requires.spots c.requires.apart _ (c.freed-pool.ensures.same ∙ c.count-count.ensures.same) _ c.merge.ensures
-    _ (c.count-count.ensures.count (at.first_spot).cell (at.first_spot).there) _ c.gate.ensures _ c.empty.ensures (w.0) (w.1)
+    _ (c.count-count.ensures.count _ (c.requires.spots.first_spot).there) _ c.gate.ensures _ c.empty.ensures (w.0) (w.1)
 
 pub prepare_node-requires : goal.prepare_node-requires
 prepare_node-requires g c =
-    let at = c.requires.spots in
     let w = pool_cell _ _ _ _ c.requires.ready _ _ _ c.requires.spots in
     joined_leaves_node _ _ _ _ c.requires.ready _ _ _ c.requires.spots c.requires.apart _ (c.freed-pool.ensures.same ∙ c.count-count.ensures.same) _ c.merge.ensures
-    _ (c.count-count.ensures.count (at.first_spot).cell (at.first_spot).there) _ c.gate.ensures _ c.empty.ensures (w.0) (w.1)
+    _ (c.count-count.ensures.count _ (c.requires.spots.first_spot).there) _ c.gate.ensures _ c.empty.ensures (w.0) (w.1)
     _ (c.freed-pool.ensures.freed (w.0) (ap (λ (b : Cells). b.pool) c.count-count.ensures.same ∙ w.1)) _ c.prepare_pool.ensures
 
 pub returns-clause-step : goal.returns-clause-step
 returns-clause-step g c =
-    let at = c.requires.spots in
     let w = pool_cell _ _ _ _ c.requires.ready _ _ _ c.requires.spots in
     subst (λ (p : Prepared). IsPreparedStep c.args.shape.now (g.B.Board.cells c.args.board.now) (g.B.Board.cells c.prepare_node.new.board) p) (sym c.in_both.ensures)
     (joined_prepared _ _ _ _ c.requires.ready _ _ _ c.requires.spots c.requires.apart _ (c.freed-pool.ensures.same ∙ c.count-count.ensures.same) _ c.merge.ensures
-    _ (c.count-count.ensures.count (at.first_spot).cell (at.first_spot).there) _ c.gate.ensures _ c.empty.ensures (w.0) (w.1)
+    _ (c.count-count.ensures.count _ (c.requires.spots.first_spot).there) _ c.gate.ensures _ c.empty.ensures (w.0) (w.1)
     _ (c.freed-pool.ensures.freed (w.0) (ap (λ (b : Cells). b.pool) c.count-count.ensures.same ∙ w.1)) _ c.prepare_pool.ensures c.requires.fits _ c.prepare_node.ensures)
