@@ -1,6 +1,6 @@
 -- The case as the definitions compute it.
-use Rattle.network_model.proofs.Worked.{homes_move}
+use Rattle.network_model.proofs.Worked.{worked}
 use Rattle.network_model.proofs.cases.homes_move.Goals as goal
 
 pub returns : goal.returns
-returns c = homes_move
+returns c = worked.homes_move

@@ -1,6 +1,6 @@
 -- The case as the definitions compute it.
-use Rattle.network_model.proofs.Worked.{order_of_refusals}
+use Rattle.network_model.proofs.Worked.{worked}
 use Rattle.network_model.proofs.cases.order_of_refusals.Goals as goal
 
 pub returns : goal.returns
-returns c = order_of_refusals
+returns c = worked.order_of_refusals

@@ -1,6 +1,6 @@
 -- The case as the definitions compute it.
-use Rattle.network_model.proofs.Worked.{tie}
+use Rattle.network_model.proofs.Worked.{worked}
 use Rattle.network_model.proofs.cases.tie.Goals as goal
 
 pub returns : goal.returns
-returns c = tie
+returns c = worked.tie
