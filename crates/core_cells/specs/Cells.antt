@@ -31,6 +31,18 @@ put_pool cs w = record cs { pool = Some w }
 unfoldable pub put_slot : Cells → ℕ → SlotCell → Cells
 put_slot cs k w = record cs { slot = λ m. cond (m == k) (Some w) (cs.slot m) }
 
+-- how a node, the pool or a slot is written on a board
+pub record Writes (A : Type 0) : Type 0 where
+  pub node : A → ℕ → NodeValues → A
+  pub pool : A → PoolPair → A
+  pub slot : A → ℕ → SlotCell → A
+
+-- a cell that was there is what was written, and all others stay
+pub record ArePut {A : Type 0} (cells : A → Cells) (writes : Writes A) : Type 0 where
+  pub node : (a : A) (k : ℕ) (w : NodeValues) → IsSome ((cells a).node k) → cells (writes.node a k w) ≡ put_node (cells a) k w
+  pub pool : (a : A) (w : PoolPair) → IsSome (cells a).pool → cells (writes.pool a w) ≡ put_pool (cells a) w
+  pub slot : (a : A) (k : ℕ) (w : SlotCell) → IsSome ((cells a).slot k) → cells (writes.slot a k w) ≡ put_slot (cells a) k w
+
 -- the value after the prepared one, if there is one, was put in place
 abbrev pub settled_value : Amplitudes → Next → Amplitudes
 settled_value a empty = a

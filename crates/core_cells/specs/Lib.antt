@@ -4,5 +4,5 @@ pub mod Cells
 pub mod Names
 pub mod Owned
 pub mod Lending
-pub mod OwnedLaws
+pub mod Writing
 pub mod Nodes

@@ -1,7 +1,9 @@
 -- Cells in lists, as the cells of a board.
+use Rattle.std.proofs.Common.{refl}
 use Rattle.std.specs.Prelude.{ℕ, ◌≡◌, ◌*◌, ◌≤◌, List, length, Some, None, slice_get, slice_set}
 use Rattle.network_model.specs.Network.{Shape, opening}
-use Rattle.core_cells.specs.Cells.{Cells, HasAllCells, IsUnprepared, CellsFit}
+use Rattle.core_cells.specs.Cells.{Cells, Writes, ArePut, put_node, put_pool, put_slot, HasAllCells, IsUnprepared, CellsFit}
+use Rattle.core_cells.specs.Writing.{set_is_put}
 use Rattle.core_cells.specs.Nodes.{NodeValues}
 use Rattle.core_cells.specs.declared.cells.PoolPair.{PoolPair}
 use Rattle.core_cells.specs.declared.cells.SlotCell.{SlotCell}
@@ -17,14 +19,20 @@ abbrev pub cells_of : Owned → Cells
 cells_of o = record { node = slice_get o.nodes; pool = Some o.pool; slot = slice_get o.slots }
 
 -- the same with another cell at a place
-abbrev pub owned_with_node : Owned → ℕ → NodeValues → Owned
-owned_with_node o k w = record o { nodes = slice_set o.nodes k w }
+abbrev pub owned_writes : Writes Owned
+owned_writes = record {
+  node = λ o k w. record o { nodes = slice_set o.nodes k w };
+  pool = λ o w. record o { pool = w };
+  slot = λ o k w. record o { slots = slice_set o.slots k w };
+}
 
-abbrev pub owned_with_pool : Owned → PoolPair → Owned
-owned_with_pool o w = record o { pool = w }
-
-abbrev pub owned_with_slot : Owned → ℕ → SlotCell → Owned
-owned_with_slot o k w = record o { slots = slice_set o.slots k w }
+pub owned_are_put : ArePut cells_of owned_writes
+unfolding put_node put_pool put_slot
+owned_are_put = record {
+  node = λ o k w has i. record (cells_of o) { node = λ m. set_is_put o.nodes k m w has i };
+  pool = λ o w has. refl;
+  slot = λ o k w has i. record (cells_of o) { slot = λ m. set_is_put o.slots k m w has i };
+}
 
 -- exactly the cells of a shape are there, nothing is prepared, and they fit the opening
 pub record IsOpened (shape : Shape) (cs : Cells) : Type 0 where

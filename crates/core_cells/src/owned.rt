@@ -52,22 +52,13 @@ impl OwnedCells {
 }
 
 impl Board for OwnedCells {
-    ghost use Rattle.core_cells.specs.Owned.{cells_of, owned_with_node, owned_with_pool, owned_with_slot};
-    ghost use Rattle.core_cells.specs.OwnedLaws.{node_is_put_in, pool_is_put_in, slot_is_put_in};
+    ghost use Rattle.core_cells.specs.Owned.{cells_of, owned_writes, owned_are_put};
 
     ghost cells = { cells_of };
 
-    ghost with_node = { owned_with_node };
+    ghost writes = { owned_writes };
 
-    ghost with_pool = { owned_with_pool };
-
-    ghost with_slot = { owned_with_slot };
-
-    ghost node_is_put = { node_is_put_in };
-
-    ghost pool_is_put = { pool_is_put_in };
-
-    ghost slot_is_put = { slot_is_put_in };
+    ghost are_put = { owned_are_put };
 
     #[tactic(auto, using(crate::proofs::Within::within))]
     fn node(&mut self, node: u8) -> &mut NodePair {

@@ -42,7 +42,7 @@ named_in_slot c own word r t a = record {
 -- what is prepared, after the own node's value was prepared besides
 module _ (shape : Shape) (c : Call) (cs : Cells) (own : Node) (ready : IsReady shape c cs own) (mid new : Cells) (put : (w : NodeValues) → mid.node c.node ≡ Some w → new ≡ put_node mid c.node (record w { next = Some own })) where
   pub own_there : IsSome (cs.node c.node)
-  own_there = let h = ready.has in some_there (cs.node c.node) h.own h.own_there
+  own_there = let h = ready.opened.has in some_there (cs.node c.node) h.own h.own_there
 
   pub slot_then_node : (t : ℕ) (a : Amplitudes) → mid ≡ changed cs (record no_changes { slots = (t, a) ∷ [] }) → new ≡ changed cs (in_slot c.node own t a)
   slot_then_node t a e = node_prepared cs mid new (record no_changes { slots = (t, a) ∷ [] }) c.node own e own_there put
@@ -87,18 +87,18 @@ module _ (shape : Shape) (c : Call) (cs : Cells) (own : Node) (ready : IsReady s
         → MatchResult r (λ _. HasPrepared before mid spot.slot (IsGated g spot.place)) (λ _. HasPrepared before mid spot.slot (IsKeptFrom g spot.place))
         → IsPreparedStep shape cs new (in_one_slot c None (gate_reply r) spot.slot)
     gate_prepared (Ok u) before e h =
-        let k = h cs no_changes (e ∙ changed-none cs ready.unprepared) at.cell at.there in
+        let k = h cs no_changes (e ∙ changed-none cs ready.opened.unprepared) at.cell at.there in
         done_by (k.0) (slot_then_node spot.slot (k.0) (k.1.0)) (k.1.1)
     gate_prepared (Err f) before e h =
-        let k = h cs no_changes (e ∙ changed-none cs ready.unprepared) at.cell at.there in
+        let k = h cs no_changes (e ∙ changed-none cs ready.opened.unprepared) at.cell at.there in
         kept_by (k.0) (slot_then_node spot.slot (k.0) (k.1.0)) (k.1.1)
 
 -- the own node is still there beside the prepared slot
 pub gate_leaves_node : (shape : Shape) (c : Call) (cs : Cells) (own : Node) (ready : IsReady shape c cs own) (q : ℕ) (spot : Spot) (at : IsSpot cs q spot) (g : Gate) (r : Result Unit TooLarge) (before mid : Cells) → before ≡ cs
     → MatchResult r (λ _. HasPrepared before mid spot.slot (IsGated g spot.place)) (λ _. HasPrepared before mid spot.slot (IsKeptFrom g spot.place)) → IsSome (mid.node c.node)
 gate_leaves_node shape c cs own ready q spot at g (Ok u) before mid e h =
-    let k = h cs no_changes (e ∙ changed-none cs ready.unprepared) at.cell at.there in
-    let n = ready.has in node_still cs mid (record no_changes { slots = (spot.slot, k.0) ∷ [] }) c.node (k.1.0) (some_there (cs.node c.node) n.own n.own_there)
+    let k = h cs no_changes (e ∙ changed-none cs ready.opened.unprepared) at.cell at.there in
+    let n = ready.opened.has in node_still cs mid (record no_changes { slots = (spot.slot, k.0) ∷ [] }) c.node (k.1.0) (some_there (cs.node c.node) n.own n.own_there)
 gate_leaves_node shape c cs own ready q spot at g (Err f) before mid e h =
-    let k = h cs no_changes (e ∙ changed-none cs ready.unprepared) at.cell at.there in
-    let n = ready.has in node_still cs mid (record no_changes { slots = (spot.slot, k.0) ∷ [] }) c.node (k.1.0) (some_there (cs.node c.node) n.own n.own_there)
+    let k = h cs no_changes (e ∙ changed-none cs ready.opened.unprepared) at.cell at.there in
+    let n = ready.opened.has in node_still cs mid (record no_changes { slots = (spot.slot, k.0) ∷ [] }) c.node (k.1.0) (some_there (cs.node c.node) n.own n.own_there)

@@ -67,7 +67,7 @@ module _ (shape : Shape) (c : Call) (cs : Cells) (own : Node) (ready : IsReady s
     no_draw = other_draws_none s c (ap is_measurement is)
 
     legal : (x : CoreReply) → IsReply shape s c 0 x → IsLegalEntry shape s (said c x)
-    legal x is = legal_entry shape s c None x ready.range (ready.allowed).node (ready.allowed).instr (λ n e. absurd (never n e)) (sym no_draw) is
+    legal x is = legal_entry shape s c None x ready.opened.range (ready.opened.allowed).node (ready.opened.allowed).instr (λ n e. absurd (never n e)) (sym no_draw) is
       where
         never : (n : ℕ) → None ≡ Some n → ⊥
         never n e = cc

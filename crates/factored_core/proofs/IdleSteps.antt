@@ -77,22 +77,22 @@ module _ (shape : Shape) (c : Call) (cs : Cells) (own : Node) (ready : IsReady s
   idle_done : (a : Amplitudes) → a ≡ ((at.cell).register).value → IsStepBy shape cs (in_slot c.node own spot.slot a) (said c reply.Silent)
   unfolding is_gate is_measurement second_of
   idle_done a same s home standing fit = (
-    done_legal shape s c Idle is refl refl ready.range ready.allowed (none_refuses shape c cs own ready s home standing fit (ap second_of is)) reply.Silent (sym (reply_is s home standing fit)),
+    done_legal shape s c Idle is refl refl ready.opened.range ready.opened.allowed (none_refuses shape c cs own ready s home standing fit (ap second_of is)) reply.Silent (sym (reply_is s home standing fit)),
     kept s home standing fit a same,
   )
 
   pub idle_prepared : (before mid new : Cells) → before ≡ cs → HasPrepared before mid spot.slot IsSame → ((w : NodeValues) → mid.node c.node ≡ Some w → new ≡ put_node mid c.node (record w { next = Some own }))
       → IsPreparedStep shape cs new (in_one_slot c None reply.Silent spot.slot)
   idle_prepared before mid new e h put =
-      let k = h cs no_changes (e ∙ changed-none cs ready.unprepared) at.cell at.there in record {
+      let k = h cs no_changes (e ∙ changed-none cs ready.opened.unprepared) at.cell at.there in record {
         changes = in_slot c.node own spot.slot (k.0);
         after = slot_then_node shape c cs own ready mid new put spot.slot (k.0) (k.1.0);
         named = named_in_slot c own None reply.Silent spot.slot (k.0);
-        there = let n = ready.has in all_there cs _ (some_there (cs.node c.node) n.own n.own_there, (some_there (cs.slot spot.slot) at.cell at.there, (tt, (tt, tt))));
+        there = let n = ready.opened.has in all_there cs _ (some_there (cs.node c.node) n.own n.own_there, (some_there (cs.slot spot.slot) at.cell at.there, (tt, (tt, tt))));
         step = idle_done (k.0) (ap (λ (r : RegisterState). next_value r.next) (k.1.1));
       }
 
   pub idle_leaves_node : (before mid : Cells) → before ≡ cs → HasPrepared before mid spot.slot IsSame → IsSome (mid.node c.node)
   idle_leaves_node before mid e h =
-      let k = h cs no_changes (e ∙ changed-none cs ready.unprepared) at.cell at.there in
-      let n = ready.has in node_still cs mid (record no_changes { slots = (spot.slot, k.0) ∷ [] }) c.node (k.1.0) (some_there (cs.node c.node) n.own n.own_there)
+      let k = h cs no_changes (e ∙ changed-none cs ready.opened.unprepared) at.cell at.there in
+      let n = ready.opened.has in node_still cs mid (record no_changes { slots = (spot.slot, k.0) ∷ [] }) c.node (k.1.0) (some_there (cs.node c.node) n.own n.own_there)

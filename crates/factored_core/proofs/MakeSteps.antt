@@ -39,7 +39,7 @@ use Rattle.factored_core.proofs.Locals.{own_touched}
 use Rattle.factored_core.proofs.NodeSteps.{node_new, reply_new}
 use Rattle.factored_core.proofs.Operands.{none_refuses, own_fits}
 use Rattle.factored_core.proofs.PoolSteps.{pool_new}
-use Rattle.factored_core.proofs.Vacant.{slot_from_pool, own_there, pool_there, copy_fits, slot_there, vacant_number, vacant_slot, less_numbers, less_slots}
+use Rattle.factored_core.proofs.Vacant.{slot_from_pool, own_there, pool_there, pool_leaves_own, pool_then_own, copy_fits, slot_there, vacant_number, vacant_slot, less_numbers, less_slots}
 
 no_some : {A : Type 0} (a : A) → None ≡ Some a → ⊥
 no_some a e = cc
@@ -116,7 +116,7 @@ module _ (shape : Shape) (c : Call) (cs : Cells) (own : Node) (ready : IsReady s
   new_done : IsStepBy shape cs (in_slot_with_pool c.node given after v.slot a) (said c (reply.New id))
   unfolding is_gate is_measurement second_of
   new_done s home standing fit = (
-    done_legal shape s c Make is refl refl ready.range ready.allowed (none_refuses shape c cs own ready s home standing fit (ap second_of is)) (reply.New id) (sym (reply_is s home standing fit)),
+    done_legal shape s c Make is refl refl ready.opened.range ready.opened.allowed (none_refuses shape c cs own ready s home standing fit (ap second_of is)) (reply.New id) (sym (reply_is s home standing fit)),
     made s home standing fit,
   )
 
@@ -129,19 +129,15 @@ module _ (shape : Shape) (c : Call) (cs : Cells) (own : Node) (ready : IsReady s
 
   -- ---- on the board
   module _ (before one : Cells) (same : before ≡ cs) (put_one : (w : PoolPair) → before.pool ≡ Some w → one ≡ put_pool before (record w { next = Some after })) where
-    pooled : one ≡ changed cs (record no_changes { pool = Some after })
-    pooled = pool_prepared cs before one no_changes after (same ∙ changed-none cs ready.unprepared) (pool_there shape c cs own ready touch) put_one
-
     pub new_leaves_node : IsSome (one.node c.node)
-    new_leaves_node = node_still cs one (record no_changes { pool = Some after }) c.node pooled (own_there shape c cs own ready)
+    new_leaves_node = pool_leaves_own shape c cs own ready touch before one same after put_one
 
     module _ (two : Cells) (next : Node) (next_is : next ≡ given) (put_two : (w : NodeValues) → one.node c.node ≡ Some w → two ≡ put_node one c.node (record w { next = Some next })) where
       abbrev half : Changes
       half = record { nodes = (c.node, given) ∷ []; pool = Some after; slots = [] }
 
       both : two ≡ changed cs half
-      both = node_prepared cs one two (record no_changes { pool = Some after }) c.node given pooled (own_there shape c cs own ready)
-          (λ w e. put_two w e ∙ ap (λ (n : Node). put_node one c.node (record w { next = Some n })) next_is)
+      both = pool_then_own shape c cs own ready touch before one same after put_one two given next next_is put_two
 
       pub new_leaves_slot : IsSome (two.slot v.slot)
       new_leaves_slot = slot_still cs two half v.slot both (slot_there shape c cs own ready touch p copied v after taken)
@@ -153,6 +149,6 @@ module _ (shape : Shape) (c : Call) (cs : Cells) (own : Node) (ready : IsReady s
             changes = in_slot_with_pool c.node given after v.slot a;
             after = k.1.0 ∙ ap (λ (b : Amplitudes). changed cs (in_slot_with_pool c.node given after v.slot b)) (ap (λ (r : RegisterState). next_value r.next) (k.1.1));
             named = named_new;
-            there = all_there cs _ (own_there shape c cs own ready, (slot_there shape c cs own ready touch p copied v after taken, (let h = ready.has in h.pool (slot_from_pool (kind_of c.command.instr) touch), (tt, tt))));
+            there = all_there cs _ (own_there shape c cs own ready, (slot_there shape c cs own ready touch p copied v after taken, (let h = ready.opened.has in h.pool (slot_from_pool (kind_of c.command.instr) touch), (tt, tt))));
             step = new_done;
           }

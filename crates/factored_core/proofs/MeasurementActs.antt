@@ -41,17 +41,17 @@ module _ (shape : Shape) (c : Call) (cs : Cells) (own : Node) (m : Measured) (ha
   -- ---- what is there
   pub pool_there : IsSome cs.pool
   unfolding may_touch_pool is_making is_measurement
-  pool_there = ((has.ready).has).pool (ap may_touch_pool is)
+  pool_there = ((has.ready.opened).has).pool (ap may_touch_pool is)
 
   node_there : IsSome (cs.node c.node)
-  node_there = some_there _ _ ((has.ready).has).own_there
+  node_there = some_there _ _ ((has.ready.opened).has).own_there
 
   pub spot_there : IsSome (cs.slot m.spot.slot)
   spot_there = some_there _ _ ((has.measured).spot).there
 
   free_there : (v : Bool) → left_value after m.outcome ≡ Some v → (w : PoolPair) → cs.pool ≡ Some w → (slot : ℕ) → IsLeastListed (w.now).slots slot → IsSome (cs.slot slot)
   unfolding takes_slot left_value
-  free_there v stays w there slot least = ((has.ready).has).free w slot (ap takes_slot is ∙ takes after stays) there least
+  free_there v stays w there slot least = ((has.ready.opened).has).free w slot (ap takes_slot is ∙ takes after stays) there least
     where
       takes : (a : After) → left_value a m.outcome ≡ Some v → takes_slot (Measure a m.told) ≡ true
       takes TakenOut e = cc
@@ -60,25 +60,25 @@ module _ (shape : Shape) (c : Call) (cs : Cells) (own : Node) (m : Measured) (ha
 
   pub number_small : length shape.places * shape.room ≤ 128 → m.number < 128
   number_small few =
-      let stands = (has.ready).stands in
+      let stands = (has.ready.opened).stands in
       below _ _ _ (stands.standing.sound.live_numbers m.number (operand_lives shape c cs own has.ready stands.state stands.home stands.standing stands.fit c.command.qubit m.number has.held)) few
 
   pub slot_small : length shape.places * shape.room ≤ 128 → m.spot.slot < 128
   slot_small few =
-      let stands = (has.ready).stands in
+      let stands = (has.ready.opened).stands in
       below _ _ _ (spot_within shape c cs own m has after is stands.state stands.home stands.standing stands.fit) few
 
   -- a slot is free where the qubit isn't alone
   pub none_free : m.alone ≡ false → (old : Pool) → ((w : PoolPair) → cs.pool ≡ Some w → old ≡ w.now) → ((t : ℕ) → is_listed old.slots t ≡ false) → ⊥
   none_free e old copied none =
-      let stands = (has.ready).stands in
+      let stands = (has.ready.opened).stands in
       let w = there_is cs.pool pool_there in
       clash (sym (slot_is_left shape c cs own m has after is stands.state stands.home stands.standing stands.fit (w.0) (w.1) e) ∙ ap (λ (o : Pool). is_listed o.slots (least_free (used_slots stands.state.live stands.home))) (sym (copied (w.0) (w.1))) ∙ none _)
 
   -- ---- what is prepared first
   pub after_node : (one two : Cells) (n : Node) → one ≡ cs → ((w : NodeValues) → one.node c.node ≡ Some w → two ≡ put_node one c.node (record w { next = Some n }))
       → two ≡ changed cs (record { nodes = (c.node, n) ∷ []; pool = None; slots = [] })
-  after_node one two n e put = node_prepared cs one two no_changes c.node n (e ∙ changed-none cs (has.ready).unprepared) node_there put
+  after_node one two n e put = node_prepared cs one two no_changes c.node n (e ∙ changed-none cs (has.ready.opened).unprepared) node_there put
 
   pub pool_left : (one two : Cells) (n : Node) → one ≡ cs → ((w : NodeValues) → one.node c.node ≡ Some w → two ≡ put_node one c.node (record w { next = Some n })) → IsSome two.pool
   pool_left one two n e put = pool_still cs two (record { nodes = (c.node, n) ∷ []; pool = None; slots = [] }) (after_node one two n e put) pool_there
@@ -97,7 +97,7 @@ module _ (shape : Shape) (c : Call) (cs : Cells) (own : Node) (m : Measured) (ha
     -- the qubit can be taken out
     pub can_take_out : (w : SlotCell) × (three.slot m.spot.slot ≡ Some w) × (m.spot.place < length w.register.value.qubits) × HasRowWith m.spot.place m.outcome w.register.value
     can_take_out =
-        let stands = (has.ready).stands in
+        let stands = (has.ready.opened).stands in
         let at = (has.measured).spot in (
           with_next_slot None at.cell,
           ap (λ (d : Cells). d.slot m.spot.slot) after_pool ∙ changed-slot_at cs first m.spot.slot at.cell at.there,

@@ -118,7 +118,7 @@ module _ (shape : Shape) (c : Call) (cs : Cells) (own : Node) (m : Measured) (ha
 
   legal : IsLegalEntry shape s (measured_entry c m)
   unfolding is_measurement second_of is_gate
-  legal = legal_entry shape s c (Some m.word) (measured_reply m.told m.outcome) (has.ready).range ((has.ready).allowed.node) ((has.ready).allowed.instr) word_small
+  legal = legal_entry shape s c (Some m.word) (measured_reply m.told m.outcome) (has.ready.opened).range ((has.ready.opened).allowed.node) ((has.ready.opened).allowed.instr) word_small
       (sym (measurement_draws s c (ap is_measurement is) (ap is_some operand_there)))
       (reply_done shape s c m.word (measured_reply m.told m.outcome) (none_refuses shape c cs own has.ready s home standing fit (ap second_of is)) (no_gate_is_small shape s c (ap is_gate is)) answer_done)
 

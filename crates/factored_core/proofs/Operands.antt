@@ -33,8 +33,8 @@ module _ (shape : Shape) (c : Call) (cs : Cells) (own : Node) (ready : IsReady s
   -- the own node
   pub own_fits : FitsNode s c.node (held_map own) (arrived_map own)
   own_fits =
-      let h = ready.has in
-      subst (λ (n : Node). FitsNode s c.node (held_map n) (arrived_map n)) (sym ready.own_is) (fit.nodes c.node h.own h.own_there)
+      let h = ready.opened.has in
+      subst (λ (n : Node). FitsNode s c.node (held_map n) (arrived_map n)) (sym ready.opened.own_is) (fit.nodes c.node h.own h.own_there)
 
   pub operand_is : (id q : ℕ) → number_of own.handles c.app id ≡ Some q → operand s c id ≡ Some q
   unfolding operand

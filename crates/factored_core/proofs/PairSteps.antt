@@ -49,7 +49,7 @@ use Rattle.factored_core.proofs.Operands.{none_refuses, own_fits}
 use Rattle.factored_core.proofs.PoolSteps.{pool_pair, second_number_is, second_left}
 use Rattle.factored_core.proofs.SendSteps.{other_there, other_fits}
 use Rattle.factored_core.proofs.Touched.{done_touches, with_other, numbers_of, nodes_are}
-use Rattle.factored_core.proofs.Vacant.{own_room, own_there, pool_there, copy_fits, slot_there, vacant_number, vacant_slot, less_numbers, less_slots}
+use Rattle.factored_core.proofs.Vacant.{own_room, own_there, pool_there, pool_leaves_own, pool_then_own, copy_fits, slot_there, vacant_number, vacant_slot, less_numbers, less_slots}
 
 no_some : {A : Type 0} (a : A) → None ≡ Some a → ⊥
 no_some a e = cc
@@ -80,9 +80,9 @@ module _ (shape : Shape) (c : Call) (cs : Cells) (own : Node) (ready : IsReady s
   -- a second number is free
   pub second_free : load_of own < shape.room → AreDistinct own.handles → load_of to < shape.room → AreDistinct to.handles → (v : Vacancy) (mid : Pool) → IsTaken v p mid → (q : ℕ) × (is_listed mid.numbers q ≡ true)
   second_free room distinct room_to distinct_to v mid taken =
-      let t = ready.stands in (
+      let t = ready.opened.stands in (
         least_free (v.number ∷ (t.state).live),
-        second_left shape t.state t.home p.numbers p.slots p.pairs (t.standing).sound (copy_fits shape c cs own ready touch p copied t.state t.home t.fit) c.node (ready.allowed).node
+        second_left shape t.state t.home p.numbers p.slots p.pairs (t.standing).sound (copy_fits shape c cs own ready touch p copied t.state t.home t.fit) c.node (ready.opened.allowed).node
             (own_room shape c cs own ready t.state t.home t.standing t.fit distinct room) other (other_within shape c other there) (λ e. (away.1) (sym e))
             (subst (λ (n : ℕ). n < shape.room) (sym (same_load t.state other to (other_fits shape c cs own ready other there to copied_to t.state t.home t.fit) shape (t.standing).sound distinct_to)) room_to)
             v.number mid.numbers taken.numbers,
@@ -163,7 +163,7 @@ module _ (shape : Shape) (c : Call) (cs : Cells) (own : Node) (ready : IsReady s
     pair_done : IsStepBy shape cs paired (said c (reply.Pair id info))
     unfolding is_gate is_measurement second_of
     pair_done s home standing fit = (
-      done_legal shape s c (Pair r) is refl refl ready.range ready.allowed (none_refuses shape c cs own ready s home standing fit (ap second_of is)) (reply.Pair id info) (sym (reply_is s home standing fit)),
+      done_legal shape s c (Pair r) is refl refl ready.opened.range ready.opened.allowed (none_refuses shape c cs own ready s home standing fit (ap second_of is)) (reply.Pair id info) (sym (reply_is s home standing fit)),
       made s home standing fit,
     )
 
@@ -176,19 +176,15 @@ module _ (shape : Shape) (c : Call) (cs : Cells) (own : Node) (ready : IsReady s
 
     -- ---- on the board
     module _ (before one : Cells) (same : before ≡ cs) (put_pool_one : (w : PoolPair) → before.pool ≡ Some w → one ≡ put_pool before (record w { next = Some after })) where
-      pooled : one ≡ changed cs (record no_changes { pool = Some after })
-      pooled = pool_prepared cs before one no_changes after (same ∙ changed-none cs ready.unprepared) (pool_there shape c cs own ready touch) put_pool_one
-
       pub pair_leaves_own : IsSome (one.node c.node)
-      pair_leaves_own = node_still cs one (record no_changes { pool = Some after }) c.node pooled (own_there shape c cs own ready)
+      pair_leaves_own = pool_leaves_own shape c cs own ready touch before one same after put_pool_one
 
       module _ (two : Cells) (next : Node) (next_is : next ≡ given) (put_own : (w : NodeValues) → one.node c.node ≡ Some w → two ≡ put_node one c.node (record w { next = Some next })) where
         abbrev first_half : Changes
         first_half = record { nodes = (c.node, given) ∷ []; pool = Some after; slots = [] }
 
         held : two ≡ changed cs first_half
-        held = node_prepared cs one two (record no_changes { pool = Some after }) c.node given pooled (own_there shape c cs own ready)
-            (λ w e. put_own w e ∙ ap (λ (n : Node). put_node one c.node (record w { next = Some n })) next_is)
+        held = pool_then_own shape c cs own ready touch before one same after put_pool_one two given next next_is put_own
 
         pub pair_leaves_other : IsSome (two.node other)
         pair_leaves_other = node_still cs two first_half other held (other_there shape c cs own ready other there)
@@ -207,7 +203,7 @@ module _ (shape : Shape) (c : Call) (cs : Cells) (own : Node) (ready : IsReady s
           pub pair_leaves_slot : 2 ≤ shape.limit → (w : SlotCell) × (three.slot v.first.slot ≡ Some w) × (2 ≤ w.register.limit)
           pair_leaves_slot limit =
               let w = slot_is_there in
-              let t = ready.stands in (
+              let t = ready.opened.stands in (
                 with_next_slot None (w.0),
                 ap (λ (d : Cells). d.slot v.first.slot) shared ∙ changed-slot_at cs halves v.first.slot (w.0) (w.1),
                 subst (λ (n : ℕ). 2 ≤ n) (sym ((t.fit).slots v.first.slot (w.0) (w.1)).limit) limit,

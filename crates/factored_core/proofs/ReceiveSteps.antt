@@ -78,7 +78,7 @@ module _ (shape : Shape) (c : Call) (cs : Cells) (own : Node) (ready : IsReady s
   received_done : IsStepBy shape cs (of_nodes c.node (received_by own c.app l) None own) (said c told)
   unfolding is_gate is_measurement second_of
   received_done s home standing fit = (
-    done_legal shape s c (Receive l) is refl refl ready.range ready.allowed (none_refuses shape c cs own ready s home standing fit (ap second_of is)) told
+    done_legal shape s c (Receive l) is refl refl ready.opened.range ready.opened.allowed (none_refuses shape c cs own ready s home standing fit (ap second_of is)) told
         (sym (reply_received shape s c 0 own (own_fits shape c cs own ready s home standing fit) l a found is)),
     taken s home standing fit,
   )
@@ -119,7 +119,7 @@ received_prepared shape c cs own ready l is t got next next_is new put =
     let a = first.0 in
     subst (λ (u : Taken). IsPreparedStep shape cs new (in_nodes c (receipt_reply l u.id u.info) None)) (sym (first.2)) (record {
       changes = of_nodes c.node (received_by own c.app l) None own;
-      after = one_node cs cs new new ready.unprepared refl c.node next (own_there shape c cs own ready) put ∙ ap (λ (n : Node). changed cs (of_nodes c.node n None own)) next_is;
+      after = one_node cs cs new new ready.opened.unprepared refl c.node next (own_there shape c cs own ready) put ∙ ap (λ (n : Node). changed cs (of_nodes c.node n None own)) next_is;
       named = named_in_nodes c (received_by own c.app l) (receipt_reply l (next_id own c.app) a.info) None own;
       there = all_there cs _ (own_there shape c cs own ready, (tt, (tt, (tt, tt))));
       step = received_done shape c cs own ready l is a (first.1);

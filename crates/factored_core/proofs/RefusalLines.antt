@@ -230,12 +230,7 @@ module _ (shape : Shape) (c : Call) (cs : Cells) (own : Node) (open_call : IsOpe
   ready_by : second_of (kind_of c.command.instr) ≡ None → IsFree → IsReady shape c cs own
   unfolding IsFree
   ready_by none free = record {
-    has = open_call.has;
-    own_is = open_call.own_is;
-    stands = open_call.stands;
-    unprepared = open_call.unprepared;
-    range = open_call.range;
-    allowed = open_call.allowed;
+    opened = open_call;
     passed = λ s home standing fit. free s home standing fit
         ∙ sym (ap (λ o. cond (holds_of o (λ id. nat_lt shape.limit (length (united_group s (own_number s c) (other_number s c id))))) (Some General) None) none);
   }
@@ -300,12 +295,7 @@ module _ (shape : Shape) (c : Call) (cs : Cells) (own : Node) (open_call : IsOpe
       pub ready_two : id ≢ c.command.qubit → IsReady shape c cs own
       unfolding refusal second_of
       ready_two other = record {
-        has = open_call.has;
-        own_is = open_call.own_is;
-        stands = open_call.stands;
-        unprepared = open_call.unprepared;
-        range = open_call.range;
-        allowed = open_call.allowed;
+        opened = open_call;
         passed = λ s home standing fit.
             ap (refusal_of shape s c) is ∙ two_lines s ∙ passes _ Unknown _ (held_is s home standing fit c.command.qubit first first_held) ∙ passes _ Unknown _ (held_is s home standing fit id second second_held)
             ∙ passes _ Unsupported _ (eq_false id c.command.qubit other)

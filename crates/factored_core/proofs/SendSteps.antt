@@ -36,7 +36,7 @@ no_some a e = cc
 -- ---- the other node of a transfer, and a copy of its value
 module _ (shape : Shape) (c : Call) (cs : Cells) (own : Node) (ready : IsReady shape c cs own) (other : ℕ) (there : other_of shape c ≡ Some other) where
   pub other_there : IsSome (cs.node other)
-  other_there = let h = ready.has in h.other other there
+  other_there = let h = ready.opened.has in h.other other there
 
   pub other_is : (w : NodeValues) × (cs.node other ≡ Some w)
   other_is = there_is (cs.node other) other_there
@@ -93,7 +93,7 @@ module _ (shape : Shape) (c : Call) (cs : Cells) (own : Node) (ready : IsReady s
     sent_done : IsStepBy shape cs (of_nodes c.node left (Some other) sent) (said c reply.Silent)
     unfolding is_gate is_measurement second_of
     sent_done s home standing fit = (
-      done_legal shape s c (Send r) is refl refl ready.range ready.allowed (none_refuses shape c cs own ready s home standing fit (ap second_of is)) reply.Silent (sym (reply_is s home standing fit)),
+      done_legal shape s c (Send r) is refl refl ready.opened.range ready.opened.allowed (none_refuses shape c cs own ready s home standing fit (ap second_of is)) reply.Silent (sym (reply_is s home standing fit)),
       moved s home standing fit,
     )
 
@@ -101,7 +101,7 @@ module _ (shape : Shape) (c : Call) (cs : Cells) (own : Node) (ready : IsReady s
   module _ (before mid : Cells) (same : before ≡ cs) (next : Node) (put : (w : NodeValues) → before.node c.node ≡ Some w → mid ≡ put_node before c.node (record w { next = Some next })) where
     pub send_leaves_other : IsSome (mid.node other)
     send_leaves_other =
-        node_still cs mid (of_nodes c.node next None next) other (one_node cs before mid mid ready.unprepared same c.node next (own_there shape c cs own ready) put)
+        node_still cs mid (of_nodes c.node next None next) other (one_node cs before mid mid ready.opened.unprepared same c.node next (own_there shape c cs own ready) put)
         (other_there shape c cs own ready other there)
 
     module _ (next_is : next ≡ without_held own c.app c.command.qubit) (arrived : Node) (new : Cells)
@@ -111,7 +111,7 @@ module _ (shape : Shape) (c : Call) (cs : Cells) (own : Node) (ready : IsReady s
       by_number (Some q) e h = record {
         changes = of_nodes c.node (left q e) (Some other) (sent q e);
         after =
-            two_nodes cs before mid new ready.unprepared same c.node next (own_there shape c cs own ready) put other arrived (other_there shape c cs own ready other there) again
+            two_nodes cs before mid new ready.opened.unprepared same c.node next (own_there shape c cs own ready) put other arrived (other_there shape c cs own ready other there) again
             ∙ ap (λ (n : Node). changed cs (of_nodes c.node n (Some other) arrived)) next_is ∙ ap (λ (n : Node). changed cs (of_nodes c.node (left q e) (Some other) n)) h;
         named = named_in_nodes c (left q e) reply.Silent (Some other) (sent q e);
         there = all_there cs _ (own_there shape c cs own ready, (other_there shape c cs own ready other there, (tt, (tt, tt))));

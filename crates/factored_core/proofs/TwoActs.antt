@@ -88,7 +88,7 @@ module _ (shape : Shape) (c : Call) (cs : Cells) (own : Node) (ready : IsReady s
   cell_two = (at.second_spot).cell
 
   own_present : IsSome (cs.node c.node)
-  own_present = let h = ready.has in some_there (cs.node c.node) h.own h.own_there
+  own_present = let h = ready.opened.has in some_there (cs.node c.node) h.own h.own_there
 
   first_present : IsSome (cs.slot one.slot)
   first_present = some_there (cs.slot one.slot) cell_one (at.first_spot).there
@@ -97,12 +97,12 @@ module _ (shape : Shape) (c : Call) (cs : Cells) (own : Node) (ready : IsReady s
   second_present = some_there (cs.slot two.slot) cell_two (at.second_spot).there
 
   start : cs ≡ changed cs no_changes
-  start = changed-none cs ready.unprepared
+  start = changed-none cs ready.opened.unprepared
 
   -- the registers, in the state that the cells stand for
   pub pair_is : one.slot ≢ two.slot → ArePair cell_one.register cell_two.register
   pair_is differ =
-      let h = ready.stands in record {
+      let h = ready.opened.stands in record {
         apart = registers_apart shape c cs own ready k one two at h.state h.home h.standing h.fit differ;
         limits = ((h.fit).slots one.slot cell_one (at.first_spot).there).limit ∙ sym (((h.fit).slots two.slot cell_two (at.second_spot).there).limit);
       }
@@ -110,7 +110,7 @@ module _ (shape : Shape) (c : Call) (cs : Cells) (own : Node) (ready : IsReady s
   -- the two places in one register differ
   pub places_differ : one.slot ≡ two.slot → one.place ≢ two.place
   places_differ same e =
-      let h = ready.stands in
+      let h = ready.opened.stands in
       numbers_apart shape c cs own ready k one two at h.state h.home h.standing h.fit
       (sym (at.first_spot).number ∙ ap (qubit_at cell_one.register.value) e ∙ ap (λ (w : SlotCell). qubit_at w.register.value two.place) cells_same ∙ (at.second_spot).number)
     where
@@ -120,11 +120,11 @@ module _ (shape : Shape) (c : Call) (cs : Cells) (own : Node) (ready : IsReady s
   -- the pool is there, and the second slot is in its range
   pub pool_cell : (w : PoolPair) × (cs.pool ≡ Some w)
   unfolding may_touch_pool is_making is_measurement second_of
-  pool_cell = there_is cs.pool ((ready.has).pool (ap may_touch_pool (at.call).kind))
+  pool_cell = there_is cs.pool ((ready.opened.has).pool (ap may_touch_pool (at.call).kind))
 
   pub slot_small : length shape.places * shape.room ≤ 128 → two.slot < 128
   slot_small few =
-      let h = ready.stands in
+      let h = ready.opened.stands in
       let lives = operand_lives shape c cs own ready h.state h.home h.standing h.fit (at.call).id at.second (at.call).second_held in
       below _ _ _ ((h.standing).homed at.second lives) (spot_home shape c cs own ready h.state h.home h.standing h.fit at.second two at.second_spot) few
     where
@@ -207,7 +207,7 @@ module _ (shape : Shape) (c : Call) (cs : Cells) (own : Node) (ready : IsReady s
       }
         where
           limit_is : (cell_one.register).limit ≡ shape.limit
-          limit_is = let h = ready.stands in ((h.fit).slots one.slot cell_one (at.first_spot).there).limit
+          limit_is = let h = ready.opened.stands in ((h.fit).slots one.slot cell_one (at.first_spot).there).limit
 
           by : (v : Merge) → IsVerdict v cell_one.register cell_two.register → v ≢ Fits
               → IsStepBy shape cs (in_slots c.node own None one.slot (one_kept.0) two.slot (both_kept.0)) (said c (reply.Error General))
@@ -312,7 +312,7 @@ module _ (shape : Shape) (c : Call) (cs : Cells) (own : Node) (ready : IsReady s
                 let can = (fits cell_one cell_two (at.first_spot).there (at.second_spot).there).fits in
                 let joined = (product_is.1.1).merged in
                 let applied = (gated_is.1.1).applied in
-                let h = ready.stands in
+                let h = ready.opened.stands in
                 let limit_is : (cell_one.register).limit ≡ shape.limit = ((h.fit).slots one.slot cell_one (at.first_spot).there).limit in
                 let qubits_a : a.qubits ≡ m.qubits = ap (λ (r : RegisterState). (next_value r.next).qubits) applied.after in
                 let v = vector_of m in record {

@@ -110,7 +110,7 @@ module _ (shape : Shape) (c : Call) (cs : Cells) (own : Node) (ready : IsReady s
 
     legal : (x : CoreReply) → IsReply shape s c 0 x → IsLegalEntry shape s (said c x)
     unfolding is_measurement
-    legal x is = legal_entry shape s c None x ready.range (ready.allowed).node (ready.allowed).instr (λ n e. absurd (no_some n e)) (sym (other_draws_none s c (ap is_measurement (at.call).kind))) is
+    legal x is = legal_entry shape s c None x ready.opened.range (ready.opened.allowed).node (ready.opened.allowed).instr (λ n e. absurd (no_some n e)) (sym (other_draws_none s c (ap is_measurement (at.call).kind))) is
 
     local : remote_of (kind_of c.command.instr) ≡ None
     unfolding remote_of

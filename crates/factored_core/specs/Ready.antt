@@ -50,14 +50,9 @@ pub record IsOpen (shape : Shape) (c : Call) (cs : Cells) (own : Node) : Type 0 
 abbrev pub IsPassed : Shape → Network → Call → Type 0
 IsPassed shape s c = refusal shape s c ≡ cond (holds_of (second_of (kind_of c.command.instr)) (λ id. nat_lt shape.limit (length (united_group s (own_number s c) (other_number s c id))))) (Some General) None
 
--- the cells are a board's on which nothing is prepared, and no cell of a node refuses the call
+-- the board is open, and no cell of a node refuses the call
 pub record IsReady (shape : Shape) (c : Call) (cs : Cells) (own : Node) : Type 0 where
-  pub has : HasCells shape c cs
-  pub own_is : own ≡ has.own.now
-  pub stands : Stands shape cs
-  pub unprepared : IsUnprepared cs
-  pub range : IsCallInRange c
-  pub allowed : IsAllowedCall shape c
+  pub opened : IsOpen shape c cs own
   pub passed : (s : Network) (home : ℕ → ℕ) → IsStanding shape s home → CellsFit shape s home cs → IsPassed shape s c
 
 -- the cells are a board's on which nothing is prepared, and cells of nodes, this other one too, refuse the call with this fault

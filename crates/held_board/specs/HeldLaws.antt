@@ -1,28 +1,10 @@
--- A cell that is set in its seat is put among the cells of the board.
-use Rattle.std.proofs.Common.{◌≡◌, ◌≢◌, ℕ, zero, suc, ◌<◌, ◌==◌, Bool, true, false, cond, List, [], ◌∷◌, length, Option, None, Some, IsSome, slice_get, slice_set, refl, sym, ap, ◌∙◌, arith}
+-- What is found of seats behind a write to one of them.
+use Rattle.std.proofs.Common.{◌≡◌, ◌≢◌, ℕ, zero, suc, ◌<◌, ◌==◌, Bool, true, false, cond, List, [], ◌∷◌, length, Option, None, Some, IsSome, slice_get, slice_set, refl, sym, ap, subst, ◌∙◌}
 use mathlib.Core.Bool.{false≢true}
-use mathlib.Core.Logic.{dite}
-use native.Mathlib.Decide.{dec_le}
-use Rattle.std.proofs.Math.ListN.{length-set}
-use Rattle.std.proofs.lemmas.List.{get_or-set_same, get_or-set_other}
-use Rattle.std.proofs.lemmas.Option.{slice_get_past, slice_get_within, slice_get-get_or}
 use Rattle.state_model.proofs.Booleans.{eq_of, ne_of}
-use Rattle.core_cells.specs.Cells.{put_node, put_pool, put_slot}
-use Rattle.core_cells.specs.Nodes.{NodeValues}
-use Rattle.core_cells.specs.declared.cells.PoolPair.{PoolPair}
-use Rattle.core_cells.specs.declared.cells.SlotCell.{SlotCell}
+use Rattle.core_cells.specs.Writing.{get_set, get_beside}
 use Rattle.held_board.specs.declared.seat.Seat.{Seat}
 use Rattle.held_board.specs.Seats.{place, cell_in, cell_of, with_cell}
-use Rattle.held_board.specs.Held.{Held, held_cells, held_with_node, held_with_pool, held_with_slot}
-
--- ---- a list with another element at a place
-get_set : {A : Type 0} (xs : List A) (k : ℕ) (w : A) → k < length xs → slice_get (slice_set xs k w) k ≡ Some w
-get_set xs k w less = slice_get-get_or (slice_set xs k w) k w (let long = length-set xs k w in omega arith) ∙ ap Some (get_or-set_same xs k w w less)
-
-pub get_beside : {A : Type 0} (xs : List A) (k m : ℕ) (w : A) → m ≢ k → slice_get (slice_set xs k w) m ≡ slice_get xs m
-get_beside xs k m w other = let long = length-set xs k w in dite (dec_le (length xs) m)
-    (λ past. slice_get_past (slice_set xs k w) m (omega arith) ∙ sym (slice_get_past xs m past))
-    (λ within. slice_get-get_or (slice_set xs k w) m w (omega arith) ∙ ap Some (get_or-set_other xs k m w w other) ∙ sym (slice_get-get_or xs m w (omega arith)))
 
 module _ {T : Type 0} where
   -- the seat at a number's place has that number
@@ -66,21 +48,9 @@ module _ {T : Type 0} where
 
       by : (b : Bool) → (m == k) ≡ b → cell_of (with_cell ss k w) m ≡ cond (m == k) (Some w) (cell_of ss m)
       by true e =
-          ap (λ p. cell_in (slice_get (with_cell ss k w) p)) (stays ∙ ap (place ss) (eq_of m k e)) ∙ ap cell_in (get_set ss (place ss k) new (slice_get_within ss (place ss k) (at.0) (at.1)))
+          ap (λ p. cell_in (slice_get (with_cell ss k w) p)) (stays ∙ ap (place ss) (eq_of m k e)) ∙ ap cell_in (get_set ss (place ss k) new (subst (λ (o : Option (Seat T)). IsSome o) (sym at.1) refl))
           ∙ sym (ap (λ b. cond b (Some w) (cell_of ss m)) e)
       by false e =
           ap (λ p. cell_in (slice_get (with_cell ss k w) p)) stays
           ∙ ap cell_in (get_beside ss (place ss k) (place ss m) new (λ same. ne_of m k e (same_number ss k m (at.0) (at.1) same)))
           ∙ sym (ap (λ b. cond b (Some w) (cell_of ss m)) e)
-
-pub node_is_put_in : (h : Held) (k : ℕ) (w : NodeValues) → IsSome ((held_cells h).node k) → held_cells (held_with_node h k w) ≡ put_node (held_cells h) k w
-unfolding put_node
-node_is_put_in h k w has = λ i. record (held_cells h) { node = λ m. cell_set h.nodes k m w has i }
-
-pub pool_is_put_in : (h : Held) (w : PoolPair) → IsSome (held_cells h).pool → held_cells (held_with_pool h w) ≡ put_pool (held_cells h) w
-unfolding put_pool
-pool_is_put_in h w has = refl
-
-pub slot_is_put_in : (h : Held) (k : ℕ) (w : SlotCell) → IsSome ((held_cells h).slot k) → held_cells (held_with_slot h k w) ≡ put_slot (held_cells h) k w
-unfolding put_slot
-slot_is_put_in h k w has = λ i. record (held_cells h) { slot = λ m. cell_set h.slots k m w has i }

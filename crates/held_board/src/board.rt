@@ -150,22 +150,13 @@ impl HeldBoard {
 }
 
 impl Board for HeldBoard {
-    ghost use Rattle.held_board.specs.Held.{held_cells, held_with_node, held_with_pool, held_with_slot};
-    ghost use Rattle.held_board.specs.HeldLaws.{node_is_put_in, pool_is_put_in, slot_is_put_in};
+    ghost use Rattle.held_board.specs.Held.{held_cells, held_writes, held_are_put};
 
     ghost cells = { held_cells };
 
-    ghost with_node = { held_with_node };
+    ghost writes = { held_writes };
 
-    ghost with_pool = { held_with_pool };
-
-    ghost with_slot = { held_with_slot };
-
-    ghost node_is_put = { node_is_put_in };
-
-    ghost pool_is_put = { pool_is_put_in };
-
-    ghost slot_is_put = { slot_is_put_in };
+    ghost are_put = { held_are_put };
 
     fn node(&mut self, node: u8) -> &mut NodePair {
         self.nodes.get(node)

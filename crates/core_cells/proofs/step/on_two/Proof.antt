@@ -62,7 +62,7 @@ on_two_spec 𝓤 𝓛 𝓜 𝓡 wired B S X LB LS LX G d P e met met_step =
     let b = r.ref_ptr.0 in let o = r.ref_ptr.1 in let vs = mut_vals r in let vi = vint w8 i ∷ [] in let vj = vint w8 j ∷ [] in
     let At : List Val → List Val → List Val → List Val → W.Ghost = λ us is js ss. ((κs, qs, bounds, a, (us, (is, (js, (ss, tt))))), y.1) in
     let Goes : List Val → List Val → List Val → List Val → Type 1 = λ us is js ss. ent 𝓤 (W.pre (At us is js ss)) (WpFn 𝓤 𝓛.H 𝓣.C 𝓣.Λ fn (us ++ (is ++ (js ++ (ss ++ [])))) (W.post (At us is js ss))) in
-    let F : SlotCell → SlotCell → B.Denot = λ x y. G.with_slot (G.with_slot r.now i x) j y in
+    let F : SlotCell → SlotCell → B.Denot = λ x y. G.writes.slot (G.writes.slot r.now i x) j y in
     let Req : Type 0 = (i ≢ j) × IsSome ((G.cells r.now).slot i) × IsSome ((G.cells r.now).slot j) in
     let Ready : Type 0 = (x y : SlotCell) → (G.cells r.now).slot i ≡ Some x → (G.cells r.now).slot j ≡ Some y → P.can_run st x.register y.register in
     let walk : (w : Val) → T (has_ty (layout S) w) × WT w → Goes vs vi vj (w ∷ []) = λ w gw.
@@ -136,7 +136,7 @@ on_two_spec 𝓤 𝓛 𝓜 𝓡 wired B S X LB LS LX G d P e met met_step =
       xs.1.0,
       xs.1.1.0,
       subst (λ (s : SlotCell × SlotCell). P.has_run st s.0.register s.1.register xs.1.0.register xs.1.1.0.register u) (λ k. (first k, second k)) said,
-      two_slots_put G.cells G.with_slot met.slot_is_put r.now i j xs.1.0 xs.1.1.0 req.1 req.2,
+      two_slots_put G.cells G.writes.slot met.are_put.slot r.now i j xs.1.0 xs.1.1.0 req.1 req.2,
     ))) $
     move ! (2 ∷ 1 ∷ 3 ∷ 0 ∷ []) $
     by ! (leaves 𝓛 En hs c (At vs vi vj (w ∷ [])) v₂ u (F xs.1.0 xs.1.1.0, (tt, (tt, (tt, tt)))) (tt, (tt, (tt, (tt, tt)))))))))))))))))))))))))) in

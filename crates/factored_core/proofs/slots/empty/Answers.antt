@@ -4,4 +4,4 @@ use Rattle.factored_core.proofs.Changed.{prepares}
 use Rattle.factored_core.proofs.slots.empty.Goals as goal
 
 pub returns : goal.returns
-returns g c = prepares _ _ _ _ _ (IsPreparedAs no_qubit) c.slot.ensures.value (g.met.B.Board.slot_is_put _ _ _ c.requires) _ c.prepare_none.ensures c.prepare_none.ensures
+returns g c = prepares _ _ _ _ _ (IsPreparedAs no_qubit) c.slot.ensures.value (g.met.B.Board.are_put.slot _ _ _ c.requires) _ c.prepare_none.ensures c.prepare_none.ensures

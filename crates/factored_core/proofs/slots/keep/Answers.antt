@@ -3,4 +3,4 @@ use Rattle.factored_core.proofs.Changed.{prepares}
 use Rattle.factored_core.proofs.slots.keep.Goals as goal
 
 pub returns : goal.returns
-returns g c = prepares _ _ _ _ _ IsSame c.slot.ensures.value (g.met.B.Board.slot_is_put _ _ _ c.requires) _ c.prepare_same.ensures c.prepare_same.ensures
+returns g c = prepares _ _ _ _ _ IsSame c.slot.ensures.value (g.met.B.Board.are_put.slot _ _ _ c.requires) _ c.prepare_same.ensures c.prepare_same.ensures

@@ -4,4 +4,4 @@ use Rattle.factored_core.proofs.Changed.{some_there}
 use Rattle.factored_core.proofs.slots.place_in.Goals as goal
 
 pub returns-clause-same : goal.returns-clause-same
-returns-clause-same g c = g.met.B.Board.slot_is_put _ _ _ (some_there _ _ c.slot-register.ensures.value) ∙ put_slot_same _ _ _ c.slot-register.ensures.value
+returns-clause-same g c = g.met.B.Board.are_put.slot _ _ _ (some_there _ _ c.slot-register.ensures.value) ∙ put_slot_same _ _ _ c.slot-register.ensures.value

@@ -4,4 +4,4 @@ use Rattle.factored_core.proofs.Changed.{prepares}
 use Rattle.factored_core.proofs.slots.set.Goals as goal
 
 pub returns : goal.returns
-returns g c = prepares _ _ _ _ _ (IsPreparedAs (basis_state c.args.number c.args.bit)) c.slot.ensures.value (g.met.B.Board.slot_is_put _ _ _ c.requires) _ c.prepare_basis.ensures c.prepare_basis.ensures
+returns g c = prepares _ _ _ _ _ (IsPreparedAs (basis_state c.args.number c.args.bit)) c.slot.ensures.value (g.met.B.Board.are_put.slot _ _ _ c.requires) _ c.prepare_basis.ensures c.prepare_basis.ensures

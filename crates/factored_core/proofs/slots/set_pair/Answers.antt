@@ -4,4 +4,4 @@ use Rattle.factored_core.proofs.Changed.{prepares, some_there}
 use Rattle.factored_core.proofs.slots.set_pair.Goals as goal
 
 pub returns : goal.returns
-returns g c = prepares _ _ _ _ _ (IsPreparedAs (pair_state c.args.first c.args.second)) c.slot.ensures.value (g.met.B.Board.slot_is_put _ _ _ (some_there _ _ c.slot.ensures.value)) _ c.prepare_pair.ensures c.prepare_pair.ensures
+returns g c = prepares _ _ _ _ _ (IsPreparedAs (pair_state c.args.first c.args.second)) c.slot.ensures.value (g.met.B.Board.are_put.slot _ _ _ (some_there _ _ c.slot.ensures.value)) _ c.prepare_pair.ensures c.prepare_pair.ensures
