@@ -23,7 +23,7 @@ use Rattle.core_cells.specs.Pool.{Pool}
 use Rattle.core_cells.specs.Cells.{Cells, CellsFit, put_node, put_pool}
 use Rattle.core_cells.specs.Nodes.{NodeValues}
 use Rattle.core_cells.specs.declared.cells.PoolPair.{PoolPair}
-use Rattle.factored_core.specs.Changes.{Changes, no_changes, changed, AreNamed, IsStepBy, ChangesFit, IsPreparedStep, register_with}
+use Rattle.factored_core.specs.Changes.{Changes, changed, AreNamed, IsStepBy, ChangesFit, IsPreparedStep, register_with}
 use Rattle.factored_core.specs.Needs.{takes_slot}
 use Rattle.factored_core.specs.Ready.{IsReady}
 use Rattle.factored_core.specs.Replies.{in_new_slot}
@@ -31,7 +31,7 @@ use Rattle.factored_core.specs.Slots.{HasPrepared, IsPreparedAs}
 use Rattle.factored_core.specs.Vacancies.{IsTaken}
 use Rattle.factored_core.specs.declared.new_qubits.Vacancy.{Vacancy}
 use Rattle.core_cells.proofs.Presence.{all_there}
-use Rattle.factored_core.proofs.Changed.{changed-none, node_prepared, pool_prepared, node_still, slot_still, there_is}
+use Rattle.factored_core.proofs.Changed.{slot_still, there_is}
 use Rattle.factored_core.proofs.ChangeLists.{change_one, number_one}
 use Rattle.factored_core.proofs.GateSteps.{said}
 use Rattle.factored_core.proofs.Legal.{done_legal}
@@ -39,7 +39,7 @@ use Rattle.factored_core.proofs.Locals.{own_touched}
 use Rattle.factored_core.proofs.NodeSteps.{node_new, reply_new}
 use Rattle.factored_core.proofs.Operands.{none_refuses, own_fits}
 use Rattle.factored_core.proofs.PoolSteps.{pool_new}
-use Rattle.factored_core.proofs.Vacant.{slot_from_pool, own_there, pool_there, pool_leaves_own, pool_then_own, copy_fits, slot_there, vacant_number, vacant_slot, less_numbers, less_slots}
+use Rattle.factored_core.proofs.Vacant.{slot_from_pool, own_there, pool_leaves_own, pool_then_own, copy_fits, slot_there, vacant_number, vacant_slot, less_numbers, less_slots}
 
 no_some : {A : Type 0} (a : A) → None ≡ Some a → ⊥
 no_some a e = cc

@@ -29,7 +29,7 @@ use Rattle.core_cells.specs.Cells.{Cells, CellsFit, put_node, put_pool}
 use Rattle.core_cells.specs.Nodes.{NodeValues}
 use Rattle.core_cells.specs.declared.cells.PoolPair.{PoolPair}
 use Rattle.core_cells.specs.declared.cells.SlotCell.{SlotCell}
-use Rattle.factored_core.specs.Changes.{Changes, no_changes, changed, with_next_slot, AreNamed, IsStepBy, ChangesFit, IsPreparedStep, register_with}
+use Rattle.factored_core.specs.Changes.{Changes, changed, with_next_slot, AreNamed, IsStepBy, ChangesFit, IsPreparedStep, register_with}
 use Rattle.factored_core.specs.Needs.{takes_slot, other_of}
 use Rattle.factored_core.specs.Ready.{IsReady}
 use Rattle.factored_core.specs.Replies.{in_new_slot}
@@ -38,7 +38,7 @@ use Rattle.factored_core.specs.Vacancies.{IsTaken, IsPairTaken, info_of}
 use Rattle.factored_core.specs.declared.new_qubits.Vacancy.{Vacancy}
 use Rattle.factored_core.specs.declared.new_qubits.PairVacancy.{PairVacancy}
 use Rattle.core_cells.proofs.Presence.{all_there, maybe_node}
-use Rattle.factored_core.proofs.Changed.{some_there, changed-none, changed-slot_at, node_prepared, pool_prepared, node_still, there_is}
+use Rattle.factored_core.proofs.Changed.{some_there, changed-slot_at, node_prepared, node_still, there_is}
 use Rattle.factored_core.proofs.ChangeLists.{change_one, number_one}
 use Rattle.factored_core.proofs.RefusalLines.{other_is_remote, other_within}
 use Rattle.factored_core.proofs.GateSteps.{said}
