@@ -178,18 +178,12 @@ module _ (shape : Shape) (limit : 1 ≤ shape.limit) (picks : List ℕ) (slots :
     lifted_is : (c : Stamp Cell) (b : Bool) → is_listed picks c.number ≡ b → lifted picks c ≡ cond b (record c { cell = None }) c
     lifted_is c b e = ap (λ t. cond t (record c { cell = None }) c) e
 
-    lifted_number : (c : Stamp Cell) → (lifted picks c).number ≡ c.number
-    lifted_number c = by (is_listed picks c.number)
+    -- what doesn't depend on the cell stays where it is lifted
+    lifted_keeps : {A : Type 0} (f : Stamp Cell → A) → ((c : Stamp Cell) → f (record c { cell = None }) ≡ f c) → (c : Stamp Cell) → f (lifted picks c) ≡ f c
+    lifted_keeps f same c = by (is_listed picks c.number)
       where
-        by : (b : Bool) → (cond b (record c { cell = None }) c).number ≡ c.number
-        by true = refl
-        by false = refl
-
-    lifted_seen : (c : Stamp Cell) → (lifted picks c).seen ≡ c.seen
-    lifted_seen c = by (is_listed picks c.number)
-      where
-        by : (b : Bool) → (cond b (record c { cell = None }) c).seen ≡ c.seen
-        by true = refl
+        by : (b : Bool) → f (cond b (record c { cell = None }) c) ≡ f c
+        by true = same c
         by false = refl
 
     module _ (h₁ : Holding (Stamp Cell)) (h₀ : Holding (Stamp Cell)) (same : h₀.slots ≡ slots) (is : h₁ ≡ record h₀ { slots = map_values (lifted picks) h₀.slots }) where
@@ -203,9 +197,9 @@ module _ (shape : Shape) (limit : 1 ≤ shape.limit) (picks : List ℕ) (slots :
           let d = held_first c held in
           let y = keeps.value c.number x at in
           let f = (loaded.from c.number y.0 y.1).1 in
-          let number : c.number ≡ d.0.number = ap (λ (w : Stamp Cell). w.number) d.2 ∙ lifted_number d.0 in
+          let number : c.number ≡ d.0.number = ap (λ (w : Stamp Cell). w.number) d.2 ∙ lifted_keeps (λ w. w.number) (λ w. refl) d.0 in
           let one : f.0 ≡ d.0 = apart f.0 d.0 f.1 d.1 (f.2 ∙ number) in
-          let seen : f.0.seen ≡ c.seen = ap (λ (w : Stamp Cell). w.seen) one ∙ sym (ap (λ (w : Stamp Cell). w.seen) d.2 ∙ lifted_seen d.0) in
+          let seen : f.0.seen ≡ c.seen = ap (λ (w : Stamp Cell). w.seen) one ∙ sym (ap (λ (w : Stamp Cell). w.seen) d.2 ∙ lifted_keeps (λ w. w.seen) (λ w. refl) d.0) in
           y.2 c.seen (subst (λ (l : List Entry). FitsCell shape c.number y.0 l) seen f.4)
 
       pub lay_idle : AreForgotten slots → (c : Stamp Cell) (x : Cell) → IsHeld h₁.slots c → c.cell ≡ Some x → (has_next x ≡ false) × (cell_at shape new c.number ≡ None)

@@ -40,14 +40,15 @@ waited_fault r (fault.Stale s) old new h is full stale = waited_not old new (sta
 pub fault_is : (f g : CommitFault) → ◌≡◌ {A = Result Unit CommitFault} (Err f) (Err g) → f ≡ g
 fault_is f g e = cc (e)
 
+-- no entry of a seat is among those of two stretches
+none_between : (own seat : ℕ) (first second : List Entry) → seat ≡ own → own_count own first ≡ 0 → own_count seat second ≡ 0 → own_count own (first ++ second) ≡ 0
+none_between own seat first second same one two = let then_none = ap (λ s. own_count s second) (sym same) ∙ two in own_count-append own first second ∙ omega (arith, one, then_none)
+
 -- one wait after another
 pub waited_twice : (a b c : Worker) → HasWaited a b → HasWaited b c → HasWaited a c
 waited_twice a b c one two = record {
   between = one.between ++ two.between;
-  others =
-      let first = one.others in
-      let second = ap (λ s. own_count s two.between) (sym one.seat) ∙ two.others in
-      own_count-append a.seat one.between two.between ∙ omega (arith, first, second);
+  others = none_between a.seat b.seat one.between two.between one.seat one.others two.others;
   seen = two.seen ∙ ap (λ (l : List Entry). l ++ two.between) one.seen ∙ append_assoc a.seen one.between two.between;
   made = two.made ∙ one.made;
   seat = two.seat ∙ one.seat;
@@ -57,10 +58,7 @@ waited_twice a b c one two = record {
 pub called : (shape : Shape) (a b c : Worker) (h : List Entry) (e : Entry) → HasWaited a b → HasAdded shape b c h e → own_count c.seat c.seen ≡ c.made → HasCalled shape e.call e.word e.reply a c
 called shape a b c h e one added own = record {
   between = one.between ++ added.between;
-  others =
-      let first = one.others in
-      let second = ap (λ s. own_count s added.between) (sym one.seat) ∙ added.others in
-      own_count-append a.seat one.between added.between ∙ omega (arith, first, second);
+  others = none_between a.seat b.seat one.between added.between one.seat one.others added.others;
   seen = added.seen ∙ ap (λ (l : List Entry). l ++ e ∷ [])
       (added.history ∙ ap (λ (l : List Entry). l ++ added.between) one.seen ∙ append_assoc a.seen one.between added.between);
   made = added.made ∙ ap (λ n. n + 1) one.made;
@@ -82,10 +80,7 @@ taken_most (Some w) next before now h = omega (arith, h.1)
 pub called_waited : (shape : Shape) (call : Call) (word : Option ℕ) (reply : CoreReply) (a b c : Worker) → HasWaited a b → HasCalled shape call word reply b c → HasCalled shape call word reply a c
 called_waited shape call word reply a b c one two = record {
   between = one.between ++ two.between;
-  others =
-      let first = one.others in
-      let second = ap (λ s. own_count s two.between) (sym one.seat) ∙ two.others in
-      own_count-append a.seat one.between two.between ∙ omega (arith, first, second);
+  others = none_between a.seat b.seat one.between two.between one.seat one.others two.others;
   seen = two.seen ∙ ap (λ (l : List Entry). l ++ record { call = call; word = word; reply = reply } ∷ [])
       (ap (λ (l : List Entry). l ++ two.between) one.seen ∙ append_assoc a.seen one.between two.between);
   made = two.made ∙ ap (λ n. n + 1) one.made;

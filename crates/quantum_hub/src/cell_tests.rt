@@ -2,7 +2,7 @@
 ghost use Rattle.std.specs.Prelude.{◌≡◌};
 
 use crate::hub::Hub;
-use crate::site::{Asked, Seat, Site, eight_nodes, plain, remote, two_nodes};
+use crate::site::{Asked, Seat, Site, Turns, eight_nodes, plain, remote};
 use crate::stories::{Story, on_eight_nodes, on_two_nodes};
 use commit_journal::{Framed, Pass};
 use cqc_model::{Instr, PairInfo};
@@ -13,13 +13,9 @@ use qron_link::CountPatience;
 use std::alloc::Global;
 use std::process::Abort;
 use std::sync::Wait;
-use std::sync::atomic::AtomicU64;
 use std::sync::atomic::Ordering::SeqCst;
 use std::test::*;
-use std::thread::{Threads, join, yield_now};
-
-// How often a thread looks whether its turn has come.
-const TURNS: u32 = 1_000_000;
+use std::thread::{Threads, join};
 
 // The largest word.
 const MOST: u64 = 18_446_744_073_709_551_615;
@@ -52,25 +48,6 @@ fn most(case: Case) -> Case {
     }
 }
 
-// What two threads tell each other: how many of the cases are answered.
-#[derive(Drop)]
-struct Turns {
-    answered: AtomicU64,
-}
-
-impl Turns {
-    // Whether so many cases were answered before this one has looked so often.
-    fn reach(&self, place: u64) -> bool {
-        for _ in 0..TURNS {
-            if self.answered.load(SeqCst) == place {
-                return true;
-            }
-            yield_now();
-        }
-        false
-    }
-}
-
 // Asks the cases of a seat, each once all before it are answered. The seat's pass, where each reply is the one that is
 // given.
 fn play<N: Named + Framed, R: Wait>(
@@ -90,7 +67,7 @@ fn play<N: Named + Framed, R: Wait>(
         if !turns.reach(place) || seat.ask(rt, alloc, hub, case.asked)? != case.reply {
             return None;
         }
-        turns.answered.store(place.wrapping_add(1), SeqCst);
+        turns.tell(place.wrapping_add(1));
     }
     Some(seat.pass)
 }
@@ -103,12 +80,9 @@ fn tell<N: Named + Framed + Send + Sync, R: Threads + Wait + Abort + Sync>(
     mut site: Site<N>,
     cases: &[Case],
 ) -> Result<(), Fail> {
-    let other = site.seat()?;
-    let first = site.seat()?;
+    let (first, other) = site.two_seats()?;
     let hub = &site.hub;
-    let turns = Turns {
-        answered: AtomicU64::new(0),
-    };
+    let turns = Turns::new();
     let (first, other) = join(
         rt,
         || play(rt, alloc, hub, first, cases, &turns),
@@ -116,13 +90,7 @@ fn tell<N: Named + Framed + Send + Sync, R: Threads + Wait + Abort + Sync>(
     );
     let first = first.ok_or("each reply of seat 0 is the one that is given")?;
     let other = other.ok_or("each reply of seat 1 is the one that is given")?;
-    site.close(
-        rt,
-        alloc,
-        vec![in alloc; first, other]?,
-        two_nodes(16, 12),
-        cases.len(),
-    )
+    site.close_two(rt, alloc, (first, other), cases.len())
 }
 
 /// A qubit that was sent away is entangled there, and each of both is found where it is.
@@ -263,46 +231,48 @@ fn wrong_hints_are_no_harm(rt: HostRuntime) -> Result<(), Fail> {
     on_two_nodes(&rt, rt.alloc(), Story::WrongHints, 64)
 }
 
+// Asks for this at each of 128 qubits. Whether each is answered: a measurement of the second one by 0, the others by 1.
+fn answers_each<N: Named + Framed, R: Wait>(
+    rt: &R,
+    alloc: Global,
+    hub: &Hub<N>,
+    seat: &mut Seat<N>,
+    instr: Instr,
+) -> bool {
+    for node in 0..8u8 {
+        for id in 0..16u16 {
+            let reply = match instr {
+                Instr::New => CoreReply::New(id),
+                Instr::Measure => CoreReply::Outcome(id != 1),
+                _ => CoreReply::Silent,
+            };
+            if seat.ask(rt, alloc, hub, plain(node, id, instr)) != Some(reply) {
+                return false;
+            }
+        }
+    }
+    true
+}
+
 /// Each of the 137 cells is locked again behind a commit that touched it.
 pub(crate) fn locks_every_cell<N: Named + Framed, R: Wait + Abort>(
     rt: &R,
     alloc: Global,
     mut site: Site<N>,
 ) -> Result<(), Fail> {
-    let mut second = site.seat()?;
-    let mut first = site.seat()?;
+    let (mut first, mut second) = site.two_seats()?;
     let hub = &site.hub;
-    for node in 0..8u8 {
-        for id in 0..16u16 {
-            let new = first.ask(rt, alloc, hub, plain(node, id, Instr::New));
-            assert_eq!(rt; new, Some(CoreReply::New(id)));
-        }
-    }
-    for node in 0..8u8 {
-        for id in 0..16u16 {
-            let turned = second.ask(rt, alloc, hub, plain(node, id, Instr::X));
-            assert_eq!(rt; turned, Some(CoreReply::Silent));
-        }
-    }
+    assert!(rt; answers_each(rt, alloc, hub, &mut first, Instr::New));
+    assert!(rt; answers_each(rt, alloc, hub, &mut second, Instr::X));
     for node in 0..8u8 {
         let joined = first.ask(rt, alloc, hub, plain(node, 0, Instr::Cnot(1)));
         assert_eq!(rt; joined, Some(CoreReply::Silent));
         let kept = second.ask(rt, alloc, hub, plain(node, 0, Instr::MeasureInplace));
         assert_eq!(rt; kept, Some(CoreReply::Outcome(true)));
     }
-    for node in 0..8u8 {
-        for id in 0..16u16 {
-            let measured = first.ask(rt, alloc, hub, plain(node, id, Instr::Measure));
-            assert_eq!(rt; measured, Some(CoreReply::Outcome(id != 1)));
-        }
-    }
-    site.close(
-        rt,
-        alloc,
-        vec![in alloc; first.pass, second.pass]?,
-        eight_nodes(),
-        400,
-    )
+    assert!(rt; answers_each(rt, alloc, hub, &mut first, Instr::Measure));
+    let passes = vec![in alloc; first.pass, second.pass]?;
+    site.close(rt, alloc, passes, eight_nodes(), 400)
 }
 
 #[test]
@@ -344,8 +314,7 @@ pub(crate) fn finds_no_room<N: Named + Framed, R: Wait + Abort>(
     alloc: Global,
     mut site: Site<N>,
 ) -> Result<(), Fail> {
-    let mut other = site.seat()?;
-    let mut first = site.seat()?;
+    let (mut first, mut other) = site.two_seats()?;
     for instr in [Instr::New, Instr::Send(remote(1))] {
         let _reply = first.ask(rt, alloc, &site.hub, plain(0, 0, instr));
     }
@@ -363,13 +332,7 @@ pub(crate) fn finds_no_room<N: Named + Framed, R: Wait + Abort>(
             .iter()
             .all(|told| told.is_some_and(|told| !told.ready))
     );
-    site.close(
-        rt,
-        alloc,
-        vec![in alloc; first.pass, other.pass]?,
-        two_nodes(16, 12),
-        2,
-    )
+    site.close_two(rt, alloc, (first.pass, other.pass), 2)
 }
 
 #[test]

@@ -12,13 +12,19 @@ use qron_link::{CountPatience, Dice, ListDice, Patience};
 use std::alloc::{AllocError, Global};
 use std::process::Abort;
 use std::sync::Wait;
+use std::sync::atomic::AtomicU64;
+use std::sync::atomic::Ordering::SeqCst;
 use std::test::*;
+use std::thread::yield_now;
 use virtual_node::Shape;
 
 // 127.0.0.1, and the port of the first node. Each other has the next port.
 const ADDRESS: u32 = 0x7f00_0001;
 
 const FIRST_PORT: u16 = 8821;
+
+// How often a thread looks whether its turn has come.
+const TURNS: u32 = 1_000_000;
 
 /// What is asked: at which node, in which app, of which qubit, and the word that it would draw.
 #[derive(Clone, Copy)]
@@ -73,6 +79,37 @@ pub(crate) fn eight_nodes() -> Shape {
     Shape::new(&places, 16, 12)
 }
 
+/// What two threads tell each other: how many steps are done.
+#[derive(Drop)]
+pub(crate) struct Turns {
+    done: AtomicU64,
+}
+
+impl Turns {
+    /// No step is done.
+    pub(crate) fn new() -> Turns {
+        Turns {
+            done: AtomicU64::new(0),
+        }
+    }
+
+    /// So many steps are done.
+    pub(crate) fn tell(&self, place: u64) {
+        self.done.store(place, SeqCst);
+    }
+
+    /// Whether so many steps were done before this one has looked so often.
+    pub(crate) fn reach(&self, place: u64) -> bool {
+        for _ in 0..TURNS {
+            if self.done.load(SeqCst) == place {
+                return true;
+            }
+            yield_now();
+        }
+        false
+    }
+}
+
 /// A hub, the passes of its seats, and how many nodes and seats it has.
 #[derive(Drop)]
 pub(crate) struct Site<N: Named + Framed> {
@@ -100,6 +137,24 @@ impl<N: Named + Framed> Site<N> {
             pass,
             nodes: self.nodes,
         })
+    }
+
+    /// The first two seats, where there are two.
+    pub(crate) fn two_seats(&mut self) -> Result<(Seat<N>, Seat<N>), Fail> {
+        let other = self.seat()?;
+        Ok((self.seat()?, other))
+    }
+
+    /// Ends a hub of two nodes and two seats.
+    pub(crate) fn close_two<R: Wait + Abort>(
+        self,
+        rt: &R,
+        alloc: Global,
+        passes: (Pass<N>, Pass<N>),
+        count: usize,
+    ) -> Result<(), Fail> {
+        let passes = vec![in alloc; passes.0, passes.1]?;
+        self.close(rt, alloc, passes, two_nodes(16, 12), count)
     }
 
     /// Ends the hub, once all seats are back, in order. It has so many entries, and a core on one thread of the same shape

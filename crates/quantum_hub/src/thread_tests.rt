@@ -2,7 +2,7 @@
 ghost use Rattle.std.specs.Prelude.{◌≡◌};
 
 use crate::hub::Hub;
-use crate::site::{Seat, Site, eight_nodes, plain, remote, words};
+use crate::site::{Seat, Site, Turns, eight_nodes, plain, remote, words};
 use crate::stories::{Story, on_eight_nodes, on_two_nodes};
 use commit_journal::{Framed, Pass};
 use cqc_model::Instr;
@@ -12,13 +12,8 @@ use qron_link::{CountPatience, Dice, ListDice};
 use std::alloc::Global;
 use std::process::Abort;
 use std::sync::Wait;
-use std::sync::atomic::AtomicBool;
-use std::sync::atomic::Ordering::SeqCst;
 use std::test::*;
-use std::thread::{Threads, join, yield_now};
-
-// How often dice look whether another call was answered, before they give their word.
-const TURNS: u32 = 1_000_000;
+use std::thread::{Threads, join};
 
 // How often a receipt looks again.
 const LOOKS: u32 = 200_000;
@@ -27,8 +22,7 @@ const LOOKS: u32 = 200_000;
 #[derive(Drop)]
 struct HeldDice<'a> {
     dice: ListDice,
-    asked: &'a AtomicBool,
-    answered: &'a AtomicBool,
+    turns: &'a Turns,
     was_answered: bool,
 }
 
@@ -50,21 +44,10 @@ impl<'a> Dice for HeldDice<'a> {
     }
 
     fn next(&mut self) -> u64 {
-        self.asked.store(true, SeqCst);
-        self.was_answered = is_set(self.answered);
+        self.turns.tell(1);
+        self.was_answered = self.turns.reach(2);
         self.dice.next()
     }
-}
-
-// Whether a flag is set within so many turns.
-fn is_set(flag: &AtomicBool) -> bool {
-    for _ in 0..TURNS {
-        if flag.load(SeqCst) {
-            return true;
-        }
-        yield_now();
-    }
-    false
 }
 
 // Measures a qubit of node 0. Whether the other call was answered while the word was held back.
@@ -73,12 +56,11 @@ fn measure<N: Named + Framed, R: Wait>(
     alloc: Global,
     hub: &Hub<N>,
     mut seat: Seat<N>,
-    flags: &[AtomicBool; 2],
+    turns: &Turns,
 ) -> Option<bool> {
     let mut dice = HeldDice {
         dice: words(alloc, 0).ok()?,
-        asked: &flags[0],
-        answered: &flags[1],
+        turns,
         was_answered: false,
     };
     let mut patience = CountPatience::new(alloc, 0).ok()?;
@@ -93,11 +75,11 @@ fn turn<N: Named + Framed, R: Wait>(
     alloc: Global,
     hub: &Hub<N>,
     mut seat: Seat<N>,
-    flags: &[AtomicBool; 2],
+    turns: &Turns,
 ) -> Option<CoreReply> {
-    let _asked = is_set(&flags[0]);
+    let _asked = turns.reach(1);
     let reply = seat.ask(rt, alloc, hub, plain(1, 0, Instr::H));
-    flags[1].store(true, SeqCst);
+    turns.tell(2);
     reply
 }
 
@@ -107,16 +89,15 @@ pub(crate) fn holds_a_word<N: Named + Framed + Send + Sync, R: Threads + Wait + 
     alloc: Global,
     mut site: Site<N>,
 ) -> Result<(), Fail> {
-    let mut other = site.seat()?;
-    let mut first = site.seat()?;
+    let (mut first, mut other) = site.two_seats()?;
     let hub = &site.hub;
     let _mine = first.ask(rt, alloc, hub, plain(0, 0, Instr::New));
     let _theirs = other.ask(rt, alloc, hub, plain(1, 0, Instr::New));
-    let flags = [AtomicBool::new(false), AtomicBool::new(false)];
+    let turns = Turns::new();
     let (was_answered, turned) = join(
         rt,
-        || measure(rt, alloc, hub, first, &flags),
-        || turn(rt, alloc, hub, other, &flags),
+        || measure(rt, alloc, hub, first, &turns),
+        || turn(rt, alloc, hub, other, &turns),
     );
     assert_eq!(rt; turned, Some(CoreReply::Silent));
     assert_eq!(rt; was_answered, Some(true));

@@ -2,7 +2,7 @@
 ghost use Rattle.std.specs.Prelude.{◌≡◌};
 
 use crate::hub::Hub;
-use crate::site::{Seat, Site, plain, remote, two_nodes};
+use crate::site::{Seat, Site, plain, remote};
 use crate::stories::{Story, on_two_nodes};
 use commit_journal::Framed;
 use cqc_model::{Fault, Instr};
@@ -21,8 +21,7 @@ pub(crate) fn gives_up<N: Named + Framed, R: Wait + Abort>(
     mut site: Site<N>,
 ) -> Result<(), Fail> {
     let mut patience = CountPatience::new(alloc, 3)?;
-    let mut sender = site.seat()?;
-    let mut receiver = site.seat()?;
+    let (mut receiver, mut sender) = site.two_seats()?;
     let receipt = plain(0, 0, Instr::Recv);
     let timeout = receiver.ask_with(rt, alloc, &site.hub, receipt, &mut patience);
     assert_eq!(rt; timeout, Some(CoreReply::Error(Fault::Timeout)));
@@ -34,13 +33,7 @@ pub(crate) fn gives_up<N: Named + Framed, R: Wait + Abort>(
     let received = receiver.ask_with(rt, alloc, &site.hub, receipt, &mut patience);
     assert_eq!(rt; received, Some(CoreReply::Received(0)));
     assert_eq!(rt; patience.asked(), 4);
-    site.close(
-        rt,
-        alloc,
-        vec![in alloc; receiver.pass, sender.pass]?,
-        two_nodes(16, 12),
-        4,
-    )
+    site.close_two(rt, alloc, (receiver.pass, sender.pass), 4)
 }
 
 #[test]
@@ -96,8 +89,7 @@ pub(crate) fn sends_while_waiting<N: Named + Framed, R: Wait + Abort>(
     alloc: Global,
     mut site: Site<N>,
 ) -> Result<(), Fail> {
-    let mut sender = site.seat()?;
-    let mut receiver = site.seat()?;
+    let (mut receiver, mut sender) = site.two_seats()?;
     let new = sender.ask(rt, alloc, &site.hub, plain(1, 0, Instr::New));
     assert_eq!(rt; new, Some(CoreReply::New(0)));
     let mut patience = Sending {
