@@ -3,7 +3,6 @@ ghost use Rattle.std.specs.Prelude.{◌≡◌};
 
 use crate::hub::Hub;
 use crate::site::{Asked, Seat, Site, Turns, eight_nodes, plain, remote};
-use crate::stories::{Story, on_eight_nodes, on_two_nodes};
 use commit_journal::{Framed, Pass};
 use cqc_model::{Instr, PairInfo};
 use history_front::Named;
@@ -20,16 +19,16 @@ use std::thread::{Threads, join};
 // The largest word.
 const MOST: u64 = 18_446_744_073_709_551_615;
 
-// What one of two seats asks, and its reply.
+/// What one of two seats asks, and its reply.
 #[derive(Clone, Copy)]
-struct Case {
+pub(crate) struct Case {
     seat: u8,
     asked: Asked,
     reply: CoreReply,
 }
 
-// Seat 0 asks at node 0, or seat 1 at node 1.
-fn answered(seat: u8, qubit: u16, instr: Instr, reply: CoreReply) -> Case {
+/// Seat 0 asks at node 0, or seat 1 at node 1.
+pub(crate) fn answered(seat: u8, qubit: u16, instr: Instr, reply: CoreReply) -> Case {
     Case {
         seat,
         asked: plain(seat, qubit, instr),
@@ -48,9 +47,9 @@ fn most(case: Case) -> Case {
     }
 }
 
-// Asks the cases of a seat, each once all before it are answered. The seat's pass, where each reply is the one that is
-// given.
-fn play<N: Named + Framed, R: Wait>(
+/// Asks the cases of a seat, each once all before it are answered. The seat's pass, where each reply is the one that is
+/// given.
+pub(crate) fn play<N: Named + Framed, R: Wait>(
     rt: &R,
     alloc: Global,
     hub: &Hub<N>,
@@ -116,11 +115,6 @@ pub(crate) fn forwards<N: Named + Framed + Send + Sync, R: Threads + Wait + Abor
     tell(rt, alloc, site, &cases)
 }
 
-#[test]
-fn forwarding(rt: HostRuntime) -> Result<(), Fail> {
-    on_two_nodes(&rt, rt.alloc(), Story::Forwarding, 64)
-}
-
 // The pair that node 0 makes with node 1, by its number.
 fn pair_of(number: u32) -> PairInfo {
     let one = remote(0);
@@ -164,16 +158,6 @@ pub(crate) fn turns_a_half<N: Named + Framed + Send + Sync, R: Threads + Wait + 
     tell(rt, alloc, site, &cases)
 }
 
-#[test]
-fn a_half_is_turned_before_a_gate(rt: HostRuntime) -> Result<(), Fail> {
-    on_two_nodes(&rt, rt.alloc(), Story::TurnedBefore, 64)
-}
-
-#[test]
-fn a_half_is_turned_behind_a_gate(rt: HostRuntime) -> Result<(), Fail> {
-    on_two_nodes(&rt, rt.alloc(), Story::TurnedBehind, 64)
-}
-
 /// A pair agrees, and teleports a qubit.
 pub(crate) fn makes_pairs<N: Named + Framed + Send + Sync, R: Threads + Wait + Abort + Sync>(
     rt: &R,
@@ -203,11 +187,6 @@ pub(crate) fn makes_pairs<N: Named + Framed + Send + Sync, R: Threads + Wait + A
     tell(rt, alloc, site, &cases)
 }
 
-#[test]
-fn pairs_and_teleportation(rt: HostRuntime) -> Result<(), Fail> {
-    on_two_nodes(&rt, rt.alloc(), Story::Pairs, 64)
-}
-
 /// Calls whose hints are wrong find their cells with all locks.
 pub(crate) fn finds_all<N: Named + Framed, R: Wait + Abort>(
     rt: &R,
@@ -224,11 +203,6 @@ pub(crate) fn finds_all<N: Named + Framed, R: Wait + Abort>(
     let measured = seat.ask(rt, alloc, &site.hub, plain(0, 1, Instr::Measure));
     assert!(rt; matches!(measured, Some(CoreReply::Outcome(_))));
     Ok(())
-}
-
-#[test]
-fn wrong_hints_are_no_harm(rt: HostRuntime) -> Result<(), Fail> {
-    on_two_nodes(&rt, rt.alloc(), Story::WrongHints, 64)
 }
 
 // Asks for this at each of 128 qubits. Whether each is answered: a measurement of the second one by 0, the others by 1.
@@ -273,11 +247,6 @@ pub(crate) fn locks_every_cell<N: Named + Framed, R: Wait + Abort>(
     assert!(rt; answers_each(rt, alloc, hub, &mut first, Instr::Measure));
     let passes = vec![in alloc; first.pass, second.pass]?;
     site.close(rt, alloc, passes, eight_nodes(), 400)
-}
-
-#[test]
-fn every_cell(rt: HostRuntime) -> Result<(), Fail> {
-    on_eight_nodes(&rt, rt.alloc(), Story::EveryCell, 1024, 2)
 }
 
 // What a cell tells: whether a next value is there, and how much it has.
@@ -333,9 +302,4 @@ pub(crate) fn finds_no_room<N: Named + Framed, R: Wait + Abort>(
             .all(|told| told.is_some_and(|told| !told.ready))
     );
     site.close_two(rt, alloc, (first.pass, other.pass), 2)
-}
-
-#[test]
-fn a_full_journal_changes_no_cell(rt: HostRuntime) -> Result<(), Fail> {
-    on_two_nodes(&rt, rt.alloc(), Story::NoRoom, 2)
 }

@@ -1,4 +1,4 @@
-// What is done with a hub in a test: each test opens a hub under a name of its own, and tells a story there.
+// Tests: each opens a hub under a name of its own, and tells a story there.
 ghost use Rattle.std.specs.Prelude.{◌≡◌, ◌≤◌, ◌+◌, ◌*◌, length};
 
 use crate::hub::{Hub, Opened};
@@ -11,13 +11,13 @@ use std::alloc::Global;
 use std::marker::Brand;
 use std::process::Abort;
 use std::sync::Wait;
-use std::test::Fail;
+use std::test::*;
 use std::thread::Threads;
 use virtual_node::Shape;
 
-/// Which story is told.
+// Which story is told.
 #[derive(Clone, Copy)]
-pub(crate) enum Story {
+enum Story {
     GivesUp,
     SentWhileWaiting,
     Forwarding,
@@ -31,8 +31,8 @@ pub(crate) enum Story {
     FourThreads,
 }
 
-/// Tells a story on two nodes with room 16 and limit 12, to two seats.
-pub(crate) fn on_two_nodes<R: Threads + Wait + Abort + Sync>(
+// Tells a story on two nodes with room 16 and limit 12, to two seats.
+fn on_two_nodes<R: Threads + Wait + Abort + Sync>(
     rt: &R,
     alloc: Global,
     story: Story,
@@ -42,8 +42,8 @@ pub(crate) fn on_two_nodes<R: Threads + Wait + Abort + Sync>(
     open::<Brand, R>(rt, alloc, blank, two_nodes(16, 12), entries, 2, story)
 }
 
-/// Tells a story on eight nodes with room 16 and limit 12.
-pub(crate) fn on_eight_nodes<R: Threads + Wait + Abort + Sync>(
+// Tells a story on eight nodes with room 16 and limit 12.
+fn on_eight_nodes<R: Threads + Wait + Abort + Sync>(
     rt: &R,
     alloc: Global,
     story: Story,
@@ -93,4 +93,59 @@ fn open<N: Named + Framed + Send + Sync, R: Threads + Wait + Abort + Sync>(
         Story::HeldWord => thread_tests::holds_a_word(rt, alloc, site),
         Story::FourThreads => thread_tests::works_in_four(rt, alloc, site),
     }
+}
+
+#[test]
+fn receipts_wait_and_give_up(rt: HostRuntime) -> Result<(), Fail> {
+    on_two_nodes(&rt, rt.alloc(), Story::GivesUp, 64)
+}
+
+#[test]
+fn sent_while_waiting(rt: HostRuntime) -> Result<(), Fail> {
+    on_two_nodes(&rt, rt.alloc(), Story::SentWhileWaiting, 64)
+}
+
+#[test]
+fn forwarding(rt: HostRuntime) -> Result<(), Fail> {
+    on_two_nodes(&rt, rt.alloc(), Story::Forwarding, 64)
+}
+
+#[test]
+fn a_half_is_turned_before_a_gate(rt: HostRuntime) -> Result<(), Fail> {
+    on_two_nodes(&rt, rt.alloc(), Story::TurnedBefore, 64)
+}
+
+#[test]
+fn a_half_is_turned_behind_a_gate(rt: HostRuntime) -> Result<(), Fail> {
+    on_two_nodes(&rt, rt.alloc(), Story::TurnedBehind, 64)
+}
+
+#[test]
+fn pairs_and_teleportation(rt: HostRuntime) -> Result<(), Fail> {
+    on_two_nodes(&rt, rt.alloc(), Story::Pairs, 64)
+}
+
+#[test]
+fn wrong_hints_are_no_harm(rt: HostRuntime) -> Result<(), Fail> {
+    on_two_nodes(&rt, rt.alloc(), Story::WrongHints, 64)
+}
+
+#[test]
+fn every_cell(rt: HostRuntime) -> Result<(), Fail> {
+    on_eight_nodes(&rt, rt.alloc(), Story::EveryCell, 1024, 2)
+}
+
+#[test]
+fn a_full_journal_changes_no_cell(rt: HostRuntime) -> Result<(), Fail> {
+    on_two_nodes(&rt, rt.alloc(), Story::NoRoom, 2)
+}
+
+#[test]
+fn held_word(rt: HostRuntime) -> Result<(), Fail> {
+    on_two_nodes(&rt, rt.alloc(), Story::HeldWord, 64)
+}
+
+#[test]
+fn four_threads(rt: HostRuntime) -> Result<(), Fail> {
+    on_eight_nodes(&rt, rt.alloc(), Story::FourThreads, 2048, 4)
 }

@@ -1,9 +1,9 @@
 // Calls from several threads.
 ghost use Rattle.std.specs.Prelude.{◌≡◌};
 
+use crate::cell_tests::{answered, play};
 use crate::hub::Hub;
 use crate::site::{Seat, Site, Turns, eight_nodes, plain, remote, words};
-use crate::stories::{Story, on_eight_nodes, on_two_nodes};
 use commit_journal::{Framed, Pass};
 use cqc_model::Instr;
 use history_front::Named;
@@ -69,20 +69,6 @@ fn measure<N: Named + Framed, R: Wait>(
     Some(dice.was_answered)
 }
 
-// Turns a qubit of node 1 once a word is asked for.
-fn turn<N: Named + Framed, R: Wait>(
-    rt: &R,
-    alloc: Global,
-    hub: &Hub<N>,
-    mut seat: Seat<N>,
-    turns: &Turns,
-) -> Option<CoreReply> {
-    let _asked = turns.reach(1);
-    let reply = seat.ask(rt, alloc, hub, plain(1, 0, Instr::H));
-    turns.tell(2);
-    reply
-}
-
 /// A gate at another node is answered while a measurement draws its word.
 pub(crate) fn holds_a_word<N: Named + Framed + Send + Sync, R: Threads + Wait + Abort + Sync>(
     rt: &R,
@@ -94,19 +80,18 @@ pub(crate) fn holds_a_word<N: Named + Framed + Send + Sync, R: Threads + Wait + 
     let _mine = first.ask(rt, alloc, hub, plain(0, 0, Instr::New));
     let _theirs = other.ask(rt, alloc, hub, plain(1, 0, Instr::New));
     let turns = Turns::new();
+    let cases = [
+        answered(0, 0, Instr::Measure, CoreReply::Outcome(false)),
+        answered(1, 0, Instr::H, CoreReply::Silent),
+    ];
     let (was_answered, turned) = join(
         rt,
         || measure(rt, alloc, hub, first, &turns),
-        || turn(rt, alloc, hub, other, &turns),
+        || play(rt, alloc, hub, other, &cases, &turns),
     );
-    assert_eq!(rt; turned, Some(CoreReply::Silent));
+    assert!(rt; turned.is_some());
     assert_eq!(rt; was_answered, Some(true));
     Ok(())
-}
-
-#[test]
-fn held_word(rt: HostRuntime) -> Result<(), Fail> {
-    on_two_nodes(&rt, rt.alloc(), Story::HeldWord, 64)
 }
 
 // Makes, entangles, sends on and receives qubits at a node, round after round.
@@ -185,9 +170,4 @@ pub(crate) fn works_in_four<N: Named + Framed + Send + Sync, R: Threads + Wait +
         assert_eq!(rt; pass.made(), 360);
     }
     site.close(rt, alloc, passes, eight_nodes(), 1440)
-}
-
-#[test]
-fn four_threads(rt: HostRuntime) -> Result<(), Fail> {
-    on_eight_nodes(&rt, rt.alloc(), Story::FourThreads, 2048, 4)
 }

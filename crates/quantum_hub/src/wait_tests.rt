@@ -3,7 +3,6 @@ ghost use Rattle.std.specs.Prelude.{◌≡◌};
 
 use crate::hub::Hub;
 use crate::site::{Seat, Site, plain, remote};
-use crate::stories::{Story, on_two_nodes};
 use commit_journal::Framed;
 use cqc_model::{Fault, Instr};
 use history_front::Named;
@@ -34,11 +33,6 @@ pub(crate) fn gives_up<N: Named + Framed, R: Wait + Abort>(
     assert_eq!(rt; received, Some(CoreReply::Received(0)));
     assert_eq!(rt; patience.asked(), 4);
     site.close_two(rt, alloc, (receiver.pass, sender.pass), 4)
-}
-
-#[test]
-fn receipts_wait_and_give_up(rt: HostRuntime) -> Result<(), Fail> {
-    on_two_nodes(&rt, rt.alloc(), Story::GivesUp, 64)
 }
 
 // Patience that has a qubit sent by another seat, and then goes on, the first time that it is asked.
@@ -107,9 +101,4 @@ pub(crate) fn sends_while_waiting<N: Named + Framed, R: Wait + Abort>(
     assert_eq!(rt; patience.asked, 1);
     assert_eq!(rt; patience.gave_up, 0);
     Ok(())
-}
-
-#[test]
-fn sent_while_waiting(rt: HostRuntime) -> Result<(), Fail> {
-    on_two_nodes(&rt, rt.alloc(), Story::SentWhileWaiting, 64)
 }
