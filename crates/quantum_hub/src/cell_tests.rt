@@ -75,11 +75,11 @@ pub(crate) fn play<N: Named + Framed, R: Wait>(
 // gives the same.
 fn tell<N: Named + Framed + Send + Sync, R: Threads + Wait + Abort + Sync>(
     rt: &R,
-    alloc: Global,
     mut site: Site<N>,
     cases: &[Case],
 ) -> Result<(), Fail> {
     let (first, other) = site.two_seats()?;
+    let alloc = site.alloc;
     let hub = &site.hub;
     let turns = Turns::new();
     let (first, other) = join(
@@ -89,13 +89,12 @@ fn tell<N: Named + Framed + Send + Sync, R: Threads + Wait + Abort + Sync>(
     );
     let first = first.ok_or("each reply of seat 0 is the one that is given")?;
     let other = other.ok_or("each reply of seat 1 is the one that is given")?;
-    site.close_two(rt, alloc, (first, other), cases.len())
+    site.close_two(rt, (first, other), cases.len())
 }
 
 /// A qubit that was sent away is entangled there, and each of both is found where it is.
 pub(crate) fn forwards<N: Named + Framed + Send + Sync, R: Threads + Wait + Abort + Sync>(
     rt: &R,
-    alloc: Global,
     site: Site<N>,
 ) -> Result<(), Fail> {
     let cases = [
@@ -112,7 +111,7 @@ pub(crate) fn forwards<N: Named + Framed + Send + Sync, R: Threads + Wait + Abor
         answered(1, 0, Instr::Measure, CoreReply::Outcome(false)),
         answered(0, 1, Instr::Measure, CoreReply::Outcome(true)),
     ];
-    tell(rt, alloc, site, &cases)
+    tell(rt, site, &cases)
 }
 
 // The pair that node 0 makes with node 1, by its number.
@@ -134,7 +133,6 @@ fn pair_of(number: u32) -> PairInfo {
 /// are the same.
 pub(crate) fn turns_a_half<N: Named + Framed + Send + Sync, R: Threads + Wait + Abort + Sync>(
     rt: &R,
-    alloc: Global,
     site: Site<N>,
     first: bool,
 ) -> Result<(), Fail> {
@@ -155,13 +153,12 @@ pub(crate) fn turns_a_half<N: Named + Framed + Send + Sync, R: Threads + Wait + 
         answered(0, 0, Instr::Measure, CoreReply::Outcome(true)),
         answered(1, 0, Instr::Measure, CoreReply::Outcome(false)),
     ];
-    tell(rt, alloc, site, &cases)
+    tell(rt, site, &cases)
 }
 
 /// A pair agrees, and teleports a qubit.
 pub(crate) fn makes_pairs<N: Named + Framed + Send + Sync, R: Threads + Wait + Abort + Sync>(
     rt: &R,
-    alloc: Global,
     site: Site<N>,
 ) -> Result<(), Fail> {
     let other = remote(1);
@@ -184,13 +181,12 @@ pub(crate) fn makes_pairs<N: Named + Framed + Send + Sync, R: Threads + Wait + A
         answered(1, 0, Instr::Z, CoreReply::Silent),
         answered(1, 0, Instr::Measure, CoreReply::Outcome(true)),
     ];
-    tell(rt, alloc, site, &cases)
+    tell(rt, site, &cases)
 }
 
 /// Calls whose hints are wrong find their cells with all locks.
 pub(crate) fn finds_all<N: Named + Framed, R: Wait + Abort>(
     rt: &R,
-    alloc: Global,
     mut site: Site<N>,
 ) -> Result<(), Fail> {
     let mut seat = site.seat()?;
@@ -198,9 +194,9 @@ pub(crate) fn finds_all<N: Named + Framed, R: Wait + Abort>(
         for hint in &site.hub.hints {
             hint.store(77, SeqCst);
         }
-        let _reply = seat.ask(rt, alloc, &site.hub, plain(0, 0, instr));
+        let _reply = seat.ask(rt, site.alloc, &site.hub, plain(0, 0, instr));
     }
-    let measured = seat.ask(rt, alloc, &site.hub, plain(0, 1, Instr::Measure));
+    let measured = seat.ask(rt, site.alloc, &site.hub, plain(0, 1, Instr::Measure));
     assert!(rt; matches!(measured, Some(CoreReply::Outcome(_))));
     Ok(())
 }
@@ -231,22 +227,21 @@ fn answers_each<N: Named + Framed, R: Wait>(
 /// Each of the 137 cells is locked again behind a commit that touched it.
 pub(crate) fn locks_every_cell<N: Named + Framed, R: Wait + Abort>(
     rt: &R,
-    alloc: Global,
     mut site: Site<N>,
 ) -> Result<(), Fail> {
     let (mut first, mut second) = site.two_seats()?;
     let hub = &site.hub;
-    assert!(rt; answers_each(rt, alloc, hub, &mut first, Instr::New));
-    assert!(rt; answers_each(rt, alloc, hub, &mut second, Instr::X));
+    assert!(rt; answers_each(rt, site.alloc, hub, &mut first, Instr::New));
+    assert!(rt; answers_each(rt, site.alloc, hub, &mut second, Instr::X));
     for node in 0..8u8 {
-        let joined = first.ask(rt, alloc, hub, plain(node, 0, Instr::Cnot(1)));
+        let joined = first.ask(rt, site.alloc, hub, plain(node, 0, Instr::Cnot(1)));
         assert_eq!(rt; joined, Some(CoreReply::Silent));
-        let kept = second.ask(rt, alloc, hub, plain(node, 0, Instr::MeasureInplace));
+        let kept = second.ask(rt, site.alloc, hub, plain(node, 0, Instr::MeasureInplace));
         assert_eq!(rt; kept, Some(CoreReply::Outcome(true)));
     }
-    assert!(rt; answers_each(rt, alloc, hub, &mut first, Instr::Measure));
-    let passes = vec![in alloc; first.pass, second.pass]?;
-    site.close(rt, alloc, passes, eight_nodes(), 400)
+    assert!(rt; answers_each(rt, site.alloc, hub, &mut first, Instr::Measure));
+    let passes = vec![in site.alloc; first.pass, second.pass]?;
+    site.close(rt, passes, eight_nodes(), 400)
 }
 
 // What a cell tells: whether a next value is there, and how much it has.
@@ -280,17 +275,16 @@ fn state_of<N: Named + Framed, R: Wait>(rt: &R, hub: &Hub<N>, number: u16) -> Op
 /// Where the journal is full nothing changes: two nodes, what is free and a register stay as they were.
 pub(crate) fn finds_no_room<N: Named + Framed, R: Wait + Abort>(
     rt: &R,
-    alloc: Global,
     mut site: Site<N>,
 ) -> Result<(), Fail> {
     let (mut first, mut other) = site.two_seats()?;
     for instr in [Instr::New, Instr::Send(remote(1))] {
-        let _reply = first.ask(rt, alloc, &site.hub, plain(0, 0, instr));
+        let _reply = first.ask(rt, site.alloc, &site.hub, plain(0, 0, instr));
     }
     let before = [0, 1, 2, 3].map(|number| state_of(rt, &site.hub, number));
     for instr in [Instr::Recv, Instr::New, Instr::Epr(remote(0))] {
-        let mut dice = crate::site::words(alloc, 0)?;
-        let mut patience = CountPatience::new(alloc, 0)?;
+        let mut dice = crate::site::words(site.alloc, 0)?;
+        let mut patience = CountPatience::new(site.alloc, 0)?;
         let answer = other.call(rt, &site.hub, plain(1, 0, instr), &mut dice, &mut patience);
         assert_eq!(rt; answer, Some(Err(JournalFull { entries: 2 })));
     }
@@ -301,5 +295,5 @@ pub(crate) fn finds_no_room<N: Named + Framed, R: Wait + Abort>(
             .iter()
             .all(|told| told.is_some_and(|told| !told.ready))
     );
-    site.close_two(rt, alloc, (first.pass, other.pass), 2)
+    site.close_two(rt, (first.pass, other.pass), 2)
 }

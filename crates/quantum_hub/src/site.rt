@@ -110,10 +110,11 @@ impl Turns {
     }
 }
 
-/// A hub, the passes of its seats, and how many nodes and seats it has.
+/// A hub, its memory, the passes of its seats, and how many nodes and seats it has.
 #[derive(Drop)]
 pub(crate) struct Site<N: Named + Framed> {
     pub hub: Hub<N>,
+    pub alloc: Global,
     pub passes: Vec<Pass<N>>,
     pub nodes: u8,
     pub seats: u16,
@@ -149,12 +150,11 @@ impl<N: Named + Framed> Site<N> {
     pub(crate) fn close_two<R: Wait + Abort>(
         self,
         rt: &R,
-        alloc: Global,
         passes: (Pass<N>, Pass<N>),
         count: usize,
     ) -> Result<(), Fail> {
-        let passes = vec![in alloc; passes.0, passes.1]?;
-        self.close(rt, alloc, passes, two_nodes(16, 12), count)
+        let passes = vec![in self.alloc; passes.0, passes.1]?;
+        self.close(rt, passes, two_nodes(16, 12), count)
     }
 
     /// Ends the hub, once all seats are back, in order. It has so many entries, and a core on one thread of the same shape
@@ -162,7 +162,6 @@ impl<N: Named + Framed> Site<N> {
     pub(crate) fn close<R: Wait + Abort>(
         self,
         rt: &R,
-        alloc: Global,
         passes: Vec<Pass<N>>,
         shape: Shape,
         count: usize,
@@ -170,6 +169,7 @@ impl<N: Named + Framed> Site<N> {
         if passes.len() != usize::from(self.seats) || !are_in_order(&passes) {
             return Err("the passes are those of the opening".into());
         }
+        let alloc = self.alloc;
         let entries = self.hub.close(rt, passes).entries;
         assert_eq!(rt; entries.len(), count);
         assert!(rt; replays(alloc, shape, &entries)?);

@@ -76,73 +76,48 @@ fn open<N: Named + Framed + Send + Sync, R: Threads + Wait + Abort + Sync>(
     let Opened { hub, passes } = Hub::<N>::open(alloc, blank, shape, capacity, seats)?;
     let site = Site {
         hub,
+        alloc,
         passes,
         nodes,
         seats,
     };
     match story {
-        Story::GivesUp => wait_tests::gives_up(rt, alloc, site),
-        Story::SentWhileWaiting => wait_tests::sends_while_waiting(rt, alloc, site),
-        Story::Forwarding => cell_tests::forwards(rt, alloc, site),
-        Story::TurnedBefore => cell_tests::turns_a_half(rt, alloc, site, true),
-        Story::TurnedBehind => cell_tests::turns_a_half(rt, alloc, site, false),
-        Story::Pairs => cell_tests::makes_pairs(rt, alloc, site),
-        Story::WrongHints => cell_tests::finds_all(rt, alloc, site),
-        Story::EveryCell => cell_tests::locks_every_cell(rt, alloc, site),
-        Story::NoRoom => cell_tests::finds_no_room(rt, alloc, site),
-        Story::HeldWord => thread_tests::holds_a_word(rt, alloc, site),
-        Story::FourThreads => thread_tests::works_in_four(rt, alloc, site),
+        Story::GivesUp => wait_tests::gives_up(rt, site),
+        Story::SentWhileWaiting => wait_tests::sends_while_waiting(rt, site),
+        Story::Forwarding => cell_tests::forwards(rt, site),
+        Story::TurnedBefore => cell_tests::turns_a_half(rt, site, true),
+        Story::TurnedBehind => cell_tests::turns_a_half(rt, site, false),
+        Story::Pairs => cell_tests::makes_pairs(rt, site),
+        Story::WrongHints => cell_tests::finds_all(rt, site),
+        Story::EveryCell => cell_tests::locks_every_cell(rt, site),
+        Story::NoRoom => cell_tests::finds_no_room(rt, site),
+        Story::HeldWord => thread_tests::holds_a_word(rt, site),
+        Story::FourThreads => thread_tests::works_in_four(rt, site),
     }
 }
 
 #[test]
-fn receipts_wait_and_give_up(rt: HostRuntime) -> Result<(), Fail> {
-    on_two_nodes(&rt, rt.alloc(), Story::GivesUp, 64)
-}
-
-#[test]
-fn sent_while_waiting(rt: HostRuntime) -> Result<(), Fail> {
-    on_two_nodes(&rt, rt.alloc(), Story::SentWhileWaiting, 64)
-}
-
-#[test]
-fn forwarding(rt: HostRuntime) -> Result<(), Fail> {
-    on_two_nodes(&rt, rt.alloc(), Story::Forwarding, 64)
-}
-
-#[test]
-fn a_half_is_turned_before_a_gate(rt: HostRuntime) -> Result<(), Fail> {
-    on_two_nodes(&rt, rt.alloc(), Story::TurnedBefore, 64)
-}
-
-#[test]
-fn a_half_is_turned_behind_a_gate(rt: HostRuntime) -> Result<(), Fail> {
-    on_two_nodes(&rt, rt.alloc(), Story::TurnedBehind, 64)
-}
-
-#[test]
-fn pairs_and_teleportation(rt: HostRuntime) -> Result<(), Fail> {
-    on_two_nodes(&rt, rt.alloc(), Story::Pairs, 64)
-}
-
-#[test]
-fn wrong_hints_are_no_harm(rt: HostRuntime) -> Result<(), Fail> {
-    on_two_nodes(&rt, rt.alloc(), Story::WrongHints, 64)
+fn on_two_nodes_each_story_is_true(rt: HostRuntime) -> Result<(), Fail> {
+    let stories = [
+        (Story::GivesUp, 64),
+        (Story::SentWhileWaiting, 64),
+        (Story::Forwarding, 64),
+        (Story::TurnedBefore, 64),
+        (Story::TurnedBehind, 64),
+        (Story::Pairs, 64),
+        (Story::WrongHints, 64),
+        (Story::NoRoom, 2),
+        (Story::HeldWord, 64),
+    ];
+    for (story, entries) in stories {
+        on_two_nodes(&rt, rt.alloc(), story, entries)?;
+    }
+    Ok(())
 }
 
 #[test]
 fn every_cell(rt: HostRuntime) -> Result<(), Fail> {
     on_eight_nodes(&rt, rt.alloc(), Story::EveryCell, 1024, 2)
-}
-
-#[test]
-fn a_full_journal_changes_no_cell(rt: HostRuntime) -> Result<(), Fail> {
-    on_two_nodes(&rt, rt.alloc(), Story::NoRoom, 2)
-}
-
-#[test]
-fn held_word(rt: HostRuntime) -> Result<(), Fail> {
-    on_two_nodes(&rt, rt.alloc(), Story::HeldWord, 64)
 }
 
 #[test]

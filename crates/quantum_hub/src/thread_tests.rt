@@ -72,10 +72,10 @@ fn measure<N: Named + Framed, R: Wait>(
 /// A gate at another node is answered while a measurement draws its word.
 pub(crate) fn holds_a_word<N: Named + Framed + Send + Sync, R: Threads + Wait + Abort + Sync>(
     rt: &R,
-    alloc: Global,
     mut site: Site<N>,
 ) -> Result<(), Fail> {
     let (mut first, mut other) = site.two_seats()?;
+    let alloc = site.alloc;
     let hub = &site.hub;
     let _mine = first.ask(rt, alloc, hub, plain(0, 0, Instr::New));
     let _theirs = other.ask(rt, alloc, hub, plain(1, 0, Instr::New));
@@ -150,13 +150,13 @@ fn work_in_two<N: Named + Framed + Send + Sync, R: Threads + Wait + Sync>(
 /// Four threads at a node each, which send their qubits round, make one legal history.
 pub(crate) fn works_in_four<N: Named + Framed + Send + Sync, R: Threads + Wait + Abort + Sync>(
     rt: &R,
-    alloc: Global,
     mut site: Site<N>,
 ) -> Result<(), Fail> {
     let d = site.seat()?;
     let c = site.seat()?;
     let b = site.seat()?;
     let a = site.seat()?;
+    let alloc = site.alloc;
     let hub = &site.hub;
     let (low, high) = join(
         rt,
@@ -169,5 +169,5 @@ pub(crate) fn works_in_four<N: Named + Framed + Send + Sync, R: Threads + Wait +
     for pass in &passes {
         assert_eq!(rt; pass.made(), 360);
     }
-    site.close(rt, alloc, passes, eight_nodes(), 1440)
+    site.close(rt, passes, eight_nodes(), 1440)
 }

@@ -16,23 +16,27 @@ use std::test::*;
 /// A receipt gives up after four asks and five looks. Once a qubit was sent, one finds it and asks nothing.
 pub(crate) fn gives_up<N: Named + Framed, R: Wait + Abort>(
     rt: &R,
-    alloc: Global,
     mut site: Site<N>,
 ) -> Result<(), Fail> {
-    let mut patience = CountPatience::new(alloc, 3)?;
+    let mut patience = CountPatience::new(site.alloc, 3)?;
     let (mut receiver, mut sender) = site.two_seats()?;
     let receipt = plain(0, 0, Instr::Recv);
-    let timeout = receiver.ask_with(rt, alloc, &site.hub, receipt, &mut patience);
+    let timeout = receiver.ask_with(rt, site.alloc, &site.hub, receipt, &mut patience);
     assert_eq!(rt; timeout, Some(CoreReply::Error(Fault::Timeout)));
     assert_eq!(rt; patience.asked(), 4);
-    let new = sender.ask(rt, alloc, &site.hub, plain(1, 0, Instr::New));
+    let new = sender.ask(rt, site.alloc, &site.hub, plain(1, 0, Instr::New));
     assert_eq!(rt; new, Some(CoreReply::New(0)));
-    let sent = sender.ask(rt, alloc, &site.hub, plain(1, 0, Instr::Send(remote(0))));
+    let sent = sender.ask(
+        rt,
+        site.alloc,
+        &site.hub,
+        plain(1, 0, Instr::Send(remote(0))),
+    );
     assert_eq!(rt; sent, Some(CoreReply::Silent));
-    let received = receiver.ask_with(rt, alloc, &site.hub, receipt, &mut patience);
+    let received = receiver.ask_with(rt, site.alloc, &site.hub, receipt, &mut patience);
     assert_eq!(rt; received, Some(CoreReply::Received(0)));
     assert_eq!(rt; patience.asked(), 4);
-    site.close_two(rt, alloc, (receiver.pass, sender.pass), 4)
+    site.close_two(rt, (receiver.pass, sender.pass), 4)
 }
 
 // Patience that has a qubit sent by another seat, and then goes on, the first time that it is asked.
@@ -80,15 +84,14 @@ impl<'a, N: Named + Framed, R: Wait> Patience for Sending<'a, N, R> {
 /// A qubit that arrives while a receipt waits is received at the next look.
 pub(crate) fn sends_while_waiting<N: Named + Framed, R: Wait + Abort>(
     rt: &R,
-    alloc: Global,
     mut site: Site<N>,
 ) -> Result<(), Fail> {
     let (mut receiver, mut sender) = site.two_seats()?;
-    let new = sender.ask(rt, alloc, &site.hub, plain(1, 0, Instr::New));
+    let new = sender.ask(rt, site.alloc, &site.hub, plain(1, 0, Instr::New));
     assert_eq!(rt; new, Some(CoreReply::New(0)));
     let mut patience = Sending {
         rt,
-        alloc,
+        alloc: site.alloc,
         hub: &site.hub,
         sender,
         more: 0,
@@ -96,7 +99,7 @@ pub(crate) fn sends_while_waiting<N: Named + Framed, R: Wait + Abort>(
         asked: 0,
     };
     let receipt = plain(0, 0, Instr::Recv);
-    let received = receiver.ask_with(rt, alloc, &site.hub, receipt, &mut patience);
+    let received = receiver.ask_with(rt, site.alloc, &site.hub, receipt, &mut patience);
     assert_eq!(rt; received, Some(CoreReply::Received(0)));
     assert_eq!(rt; patience.asked, 1);
     assert_eq!(rt; patience.gave_up, 0);
