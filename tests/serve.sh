@@ -162,6 +162,7 @@ cases() {
     wait $! || { cat said >&2; echo "serve: cases of $name failed" >&2; failed=1; }
 }
 cases endings
+cases terminal
 cases peers
 cases circuits
 cases load 1 2 40 1000

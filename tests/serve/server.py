@@ -48,7 +48,7 @@ def die_with_parent():
     ctypes.CDLL(None).prctl(1, signal.SIGKILL)
 
 
-def start(program, text, output=subprocess.PIPE):
+def start(program, text, output=subprocess.PIPE, errors=subprocess.PIPE):
     """The program, which serves by settings of this text."""
     with tempfile.NamedTemporaryFile("w", suffix=".toml", delete=False) as file:
         file.write(text)
@@ -56,7 +56,7 @@ def start(program, text, output=subprocess.PIPE):
         [program, "serve", file.name],
         stdin=subprocess.DEVNULL,
         stdout=output,
-        stderr=subprocess.PIPE,
+        stderr=errors,
         preexec_fn=die_with_parent,
     )
     children.append(child)
@@ -73,7 +73,7 @@ def finish(child):
         raise Wrong("the server didn't end")
     finally:
         children.remove(child)
-    return child.returncode, (said or b"").decode(), complained.decode()
+    return child.returncode, (said or b"").decode(), (complained or b"").decode()
 
 
 class Server:

@@ -1,6 +1,9 @@
 //! Virtual quantum nodes over CQC.
 #![tactic(auto)]
 
+mod announced;
+#[cfg(test)]
+mod announced_tests;
 #[cfg(test)]
 mod circuit_tests;
 #[cfg(test)]
@@ -10,6 +13,7 @@ mod detail;
 mod drill_command;
 #[cfg(test)]
 mod drill_tests;
+mod endings;
 mod errors;
 mod files;
 mod house;
@@ -37,11 +41,13 @@ mod talk_tests;
 mod tests;
 #[cfg(test)]
 mod texts;
+mod voice;
 
 use crate::complaint::Complaint;
 use crate::errors::Errors;
 use crate::real::RealHouse;
 use crate::status::Status;
+use crate::voice::Terminal;
 use qron_link::StdPipe;
 use std::env;
 use std::io::{IsTerminal, Stderr};
@@ -76,7 +82,8 @@ fn open(rt: &HostRuntime) -> Result<Outside<'_>, Complaint> {
         }
     }
     let pipe = StdPipe::new(rt.alloc(), rt.stdin(), rt.stdout())?;
-    let house = RealHouse::new(rt.alloc(), rt, pipe, standard_error(rt));
+    let voice = Terminal::of(rt.stderr());
+    let house = RealHouse::new(rt.alloc(), rt, pipe, standard_error(rt), voice);
     Ok(Outside { words, house })
 }
 

@@ -4,11 +4,13 @@ ghost use Rattle.node_table.specs.Document.{IsInRange};
 ghost use Rattle.qron_cli.specs.Posts.{AreGiven};
 ghost use Rattle.qron_cli.specs.Statuses.{HasFinished};
 
+use crate::announced::{AnnouncedDoor, AnnouncedLink};
 use crate::complaint::Complaint;
 use crate::errors::Errors;
 use crate::house::{FileRead, House, Posts};
 use crate::posts::push_post;
 use crate::status::Status;
+use crate::voice::{Caller, Terminal, Voice};
 use cqc_server::{Post, Posted};
 use network_model::Place;
 use node_table::Settings;
@@ -22,10 +24,10 @@ use std::sync::Wait;
 use virtual_node::Shape;
 
 /// Standard input, output and error, and the files and sockets of the system.
-pub type RealHouse<'a> = PipeHouse<'a, HostRuntime, Stdin, Stdout, Stderr>;
+pub type RealHouse<'a> = PipeHouse<'a, HostRuntime, Stdin, Stdout, Stderr, Terminal>;
 
-/// A pipe, where complaints go, files and sockets of a system, and dice by ChaCha20. It tells no file, no ask, no post and
-/// no link.
+/// A pipe, where complaints go, what says when connections come and end, files and sockets of a system, and dice by
+/// ChaCha20. It tells no file, no ask, no post and no link.
 #[derive(Drop)]
 pub struct PipeHouse<
     'a,
@@ -33,29 +35,39 @@ pub struct PipeHouse<
     R: Reader,
     W: Writer,
     E: Write + Drop,
+    V: Voice,
 > {
     alloc: Global,
     system: &'a S,
     pipe: Pipe<R, W>,
     /// Where complaints go.
     pub errors: Errors<E>,
+    voice: V,
     // how often a file could not be read, or a place not be had or reached
     faults: u64,
 }
 
-impl<'a, S: Files + Net<Stream = TcpStream>, R: Reader, W: Writer, E: Write + Drop> PipeHouse<
+impl<
     'a,
-    S,
-    R,
-    W,
-    E,
-> {
-    pub fn new(alloc: Global, system: &'a S, pipe: Pipe<R, W>, errors: Errors<E>) -> Self {
+    S: Files + Net<Stream = TcpStream>,
+    R: Reader,
+    W: Writer,
+    E: Write + Drop,
+    V: Voice,
+> PipeHouse<'a, S, R, W, E, V> {
+    pub fn new(
+        alloc: Global,
+        system: &'a S,
+        pipe: Pipe<R, W>,
+        errors: Errors<E>,
+        voice: V,
+    ) -> Self {
         PipeHouse {
             alloc,
             system,
             pipe,
             errors,
+            voice,
             faults: 0,
         }
     }
@@ -80,14 +92,15 @@ impl<
     R: Reader,
     W: Writer,
     E: Write + Drop,
-> House for PipeHouse<'a, S, R, W, E> {
+    V: Voice + Send,
+> House for PipeHouse<'a, S, R, W, E, V> {
     type Pipe = Pipe<R, W>;
 
     type Dice = ChaChaDice;
 
-    type Link = TcpLink;
+    type Link = AnnouncedLink<TcpLink, V>;
 
-    type Door = TcpDoor;
+    type Door = AnnouncedDoor<TcpDoor, V>;
 
     type Patience = SleepPatience<&'a S>;
 
@@ -131,9 +144,18 @@ impl<
         }
     }
 
-    fn posts(&mut self, settings: &Settings) -> Posts<TcpDoor, ChaChaDice, SleepPatience<&'a S>> {
+    fn posts(
+        &mut self,
+        settings: &Settings,
+    ) -> Posts<AnnouncedDoor<TcpDoor, V>, ChaChaDice, SleepPatience<&'a S>> {
         let posts = match doors_at(self.alloc, self.system, &settings.shape, &mut self.errors) {
-            Ok(doors) => posts_at(self.alloc, self.system, settings, doors.as_slice()),
+            Ok(doors) => posts_at(
+                self.alloc,
+                self.system,
+                settings,
+                doors.as_slice(),
+                self.voice,
+            ),
             Err(error) => Err(error),
         };
         match posts {
@@ -146,12 +168,12 @@ impl<
         }
     }
 
-    fn connect(&mut self, place: Place) -> Option<TcpLink> {
+    fn connect(&mut self, place: Place) -> Option<AnnouncedLink<TcpLink, V>> {
         let Ok(link) = TcpLink::connect(self.alloc, self.system, place.address, place.port) else {
             self.faults = self.faults.saturating_add(1);
             return None;
         };
-        Some(link)
+        Some(AnnouncedLink::untold(link))
     }
 
     fn complain(&mut self, complaint: &Complaint) {
@@ -202,21 +224,40 @@ fn doors_at<N: Net<Listener = TcpListener, Stream = TcpStream>, E: Write + Drop>
     Ok(doors)
 }
 
+// A further door of a node, for the worker of a seat.
+fn worker_door<V: Voice>(
+    door: &TcpDoor,
+    voice: V,
+    node: usize,
+    seat: usize,
+) -> io::Result<AnnouncedDoor<TcpDoor, V>> {
+    let first = Caller {
+        voice,
+        node,
+        seat,
+        serial: 0,
+    };
+    Ok(AnnouncedDoor::new(door.share()?, first))
+}
+
 // Posts for all workers of a network, those of each node at further doors of its own.
-fn posts_at<'a, S: Wait>(
+fn posts_at<'a, S: Wait, V: Voice>(
     alloc: Global,
     system: &'a S,
     settings: &Settings,
     doors: &[TcpDoor],
-) -> io::Result<Vec<Post<TcpDoor, ChaChaDice, SleepPatience<&'a S>>>>
+    voice: V,
+) -> io::Result<Vec<Post<AnnouncedDoor<TcpDoor, V>, ChaChaDice, SleepPatience<&'a S>>>>
     requires range { IsInRange settings.now }
     requires doors { length doors.now ≡ length settings.now.shape.places }
-    ensures { IfOk result (λ posts. AreGiven (⟦<Post<TcpDoor, ChaChaDice, SleepPatience<&'static S>> as Posted>⟧.watch) settings.now.seed settings.now posts.items) }
+    ensures { IfOk result (λ posts. AreGiven (⟦<Post<AnnouncedDoor<TcpDoor, V>, ChaChaDice, SleepPatience<&'static S>> as Posted>⟧.watch) settings.now.seed settings.now posts.items) }
 {
+    // A contract asks for it: there are 1 to 8 nodes.
+    let _nodes = settings.shape.nodes();
     let workers = usize::from(settings.workers);
     let mut posts = Vec::new(alloc);
     for seat in 0..doors.len() * workers {
-        let door = match doors[seat / workers].share() {
+        let door = match worker_door(&doors[seat / workers], voice, seat / workers, seat) {
             Ok(door) => door,
             Err(error) => return Err(error),
         };

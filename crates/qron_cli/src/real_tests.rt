@@ -7,6 +7,7 @@ use crate::house::{House, Posts};
 use crate::real::PipeHouse;
 use crate::status::Status;
 use crate::texts::refused_settings;
+use crate::voice::Voice;
 use cqc_client::{ScriptFault, ScriptWhy};
 use cqc_server::{ScheduleFault, Why};
 use network_model::Place;
@@ -17,9 +18,12 @@ use std::io::{self, Cursor, ErrorKind, Write};
 use std::test::Fail;
 use virtual_node::Shape;
 
-// A writer that takes so many bytes, and then fails.
+/// The address of this machine.
+pub const LOCALHOST: u32 = 0x7f00_0001;
+
+/// A writer that takes so many bytes, and then fails.
 #[derive(Drop)]
-struct Bounded {
+pub struct Bounded {
     room: usize,
 }
 
@@ -44,8 +48,16 @@ impl Writer for Bounded {
     ghost untold = { λ _ _ _. refl };
 }
 
-// A pipe that has gathered eight bytes, since input was read ahead.
-fn gathering(alloc: Global, room: usize) -> Result<Pipe<Cursor<Vec<u8>>, Bounded>, Fail> {
+/// A voice that says nothing.
+#[derive(Clone, Copy)]
+pub struct Mute;
+
+impl Voice for Mute {
+    fn say(&self, _line: &str) {}
+}
+
+/// A pipe that has gathered eight bytes, since input was read ahead.
+pub fn gathering(alloc: Global, room: usize) -> Result<Pipe<Cursor<Vec<u8>>, Bounded>, Fail> {
     let input = vec![in alloc; 0; 16]?;
     let mut pipe = Pipe::new(alloc, Cursor::new(input), Bounded { room })?;
     let mut head = [0; 8];
@@ -54,8 +66,8 @@ fn gathering(alloc: Global, room: usize) -> Result<Pipe<Cursor<Vec<u8>>, Bounded
     Ok(pipe)
 }
 
-// Standard error that is no terminal.
-fn quiet(alloc: Global) -> Errors<Vec<u8>> {
+/// Standard error that is no terminal.
+pub fn quiet(alloc: Global) -> Errors<Vec<u8>> {
     Errors {
         out: Vec::new(alloc),
         is_terminal: false,
@@ -74,7 +86,7 @@ fn failure_of_the_last_flush_is_a_fault(rt: HostRuntime) -> Result<(), Fail> {
     ];
     for (room, before, after, line) in cases {
         let alloc = rt.alloc();
-        let mut house = PipeHouse::new(alloc, &rt, gathering(alloc, room)?, quiet(alloc));
+        let mut house = PipeHouse::new(alloc, &rt, gathering(alloc, room)?, quiet(alloc), Mute);
         assert_eq!(rt; house.finish(before), after, "{room} {line}");
         assert_eq!(rt;
             house.errors.out.as_slice(),
@@ -85,12 +97,12 @@ fn failure_of_the_last_flush_is_a_fault(rt: HostRuntime) -> Result<(), Fail> {
     Ok(())
 }
 
-// Plain settings with one node at this port, and two workers.
-fn settings_at(port: u16) -> Settings
+/// Plain settings with one node at this port, and two workers.
+pub fn settings_at(port: u16) -> Settings
     ensures { IsInRange result }
 {
     let place = Place {
-        address: 0x7f00_0001,
+        address: LOCALHOST,
         port,
     };
     Settings {
@@ -103,7 +115,7 @@ fn settings_at(port: u16) -> Settings
 #[test]
 fn workers_of_a_node_share_its_port(rt: HostRuntime) -> Result<(), Fail> {
     let alloc = rt.alloc();
-    let mut house = PipeHouse::new(alloc, &rt, gathering(alloc, 8)?, quiet(alloc));
+    let mut house = PipeHouse::new(alloc, &rt, gathering(alloc, 8)?, quiet(alloc), Mute);
     let Posts::Ready(posts) = house.posts(&settings_at(0)) else {
         return Err("there is a free port".into());
     };
@@ -112,20 +124,20 @@ fn workers_of_a_node_share_its_port(rt: HostRuntime) -> Result<(), Fail> {
     };
     assert_eq!(rt; first.node, 0);
     assert_eq!(rt; second.node, 0);
-    assert_eq!(rt; first.door.port()?, second.door.port()?);
+    assert_eq!(rt; first.door.door.port()?, second.door.door.port()?);
     Ok(())
 }
 
 #[test]
 fn port_that_is_taken_is_a_fault(rt: HostRuntime) -> Result<(), Fail> {
     let alloc = rt.alloc();
-    let other = TcpDoor::bind(rt.alloc(), &rt, 0x7f00_0001, 0)?;
+    let other = TcpDoor::bind(rt.alloc(), &rt, LOCALHOST, 0)?;
     let port = other.port()?;
     let errors = Errors {
         is_terminal: true,
         ..quiet(alloc)
     };
-    let mut house = PipeHouse::new(alloc, &rt, gathering(alloc, 8)?, errors);
+    let mut house = PipeHouse::new(alloc, &rt, gathering(alloc, 8)?, errors, Mute);
     assert!(rt; matches!(house.posts(&settings_at(port)), Posts::Failed));
     let told = format!(in alloc; "no node can listen at 127.0.0.1 port {port}\n")?;
     assert_eq!(rt; str::from_utf8(house.errors.out.as_slice())?, told.as_str());

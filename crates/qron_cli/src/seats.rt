@@ -1,23 +1,21 @@
 // Connections of a schedule that take turns over a core of their own.
 ghost use Rattle.std.specs.Prelude.{◌≡◌, ◌≤◌, ◌<◌, ◌^◌, length, map, [], All, IfOk, None};
-ghost use Rattle.std.specs.List.{list_any};
 ghost use Rattle.session_model.specs.Turns.{AreTurns, takers_of};
 ghost use Rattle.cqc_server.specs.InMemory.{shown_end};
 ghost use Rattle.node_table.specs.Document.{IsInRange};
 ghost use Rattle.schedule.specs.Views.{plan};
 ghost use Rattle.qron_cli.specs.Pipe.{journal_of};
 ghost use Rattle.qron_cli.specs.Seats.{CanPlay, seated, all_seated, all_planned, ends_of};
-ghost use Rattle.qron_cli.specs.Lines.{is_faulty, is_unfinished, outcome_of_all};
+ghost use Rattle.qron_cli.specs.Lines.{outcome_of_all};
 
-use crate::complaint::Complaint;
+use crate::endings::outcome_of_all;
 use crate::house::House;
-use crate::status::{Outcome, Work};
+use crate::status::Outcome;
 use cqc_server::{Actor, Planned, READ_LIMIT, Schedule, Shown, replay_in_memory};
 use cqc_session::Session;
 use factored_core::Solo;
 use node_table::Settings;
 use qron_link::{Dice, MemLink};
-use session_model::Ending;
 use std::alloc::{AllocError, Global};
 
 // The most bytes that a read of a link hands out.
@@ -97,54 +95,12 @@ pub struct Played<D: Dice + Drop> {
 }
 
 impl<D: Dice + Drop> Played<D> {
-    /// What came of the connections: a fault where a link failed, else unfinished work where an input was cut, the
-    /// journal was full, or the most bytes were read.
+    /// What came of the connections.
     pub fn outcome(&self) -> Outcome
         ensures { result ≡ outcome_of_all (map (λ a. a.ending) self.now.actors.items) }
     {
         outcome_of_all(&self.actors)
     }
-}
-
-fn outcome_of_all<D: Dice>(actors: &[Actor<MemLink, D>]) -> Outcome
-    ensures { result ≡ outcome_of_all (map (λ a. a.ending) actors.now) }
-{
-    if any_faulty(actors) {
-        Err(Complaint::Fault)
-    } else if any_unfinished(actors) {
-        Ok(Work::Unfinished)
-    } else {
-        Ok(Work::Done)
-    }
-}
-
-fn any_faulty<D: Dice>(actors: &[Actor<MemLink, D>]) -> bool
-    ensures { result ≡ list_any (λ a. is_faulty a.ending) actors.now }
-{
-    actors.iter().any(|actor| is_faulty(&actor.ending))
-}
-
-fn any_unfinished<D: Dice>(actors: &[Actor<MemLink, D>]) -> bool
-    ensures { result ≡ list_any (λ a. is_unfinished a.ending) actors.now }
-{
-    actors.iter().any(|actor| is_unfinished(&actor.ending))
-}
-
-/// Whether a link failed.
-pub(crate) fn is_faulty(ending: &Option<Ending>) -> bool
-    ensures { result ≡ is_faulty ending.now }
-{
-    matches!(ending, Some(Ending::ReadFault | Ending::WriteFault))
-}
-
-/// Whether an input was cut, the journal was full, or the most bytes were read.
-pub(crate) fn is_unfinished(ending: &Option<Ending>) -> bool
-    ensures { result ≡ is_unfinished ending.now }
-{
-    matches!(
-        ending,
-        Some(Ending::Cut { .. } | Ending::Full { .. } | Ending::Spent { .. })
-    )
 }
 
 /// The connections of a schedule take their turns over a core of their own. All room is taken before the first turn.

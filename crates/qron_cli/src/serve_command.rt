@@ -1,19 +1,18 @@
 // The nodes of a network on their ports, until every worker has ended.
-ghost use Rattle.std.specs.Prelude.{◌≡◌, [], ◌∷◌, map, string_bytes, IfOk, IfErr, IfSome, None, Some};
+ghost use Rattle.std.specs.Prelude.{◌≡◌, [], ◌∷◌, map, string_bytes, IfOk, IfErr, IfSome, None};
 ghost use Rattle.std.specs.List.{list_any, flat_map};
 ghost use Rattle.node_table.specs.Document.{IsInRange};
 ghost use Rattle.qron_cli.specs.House.{Allows, ask_file, ask_posts, asks_behind};
 ghost use Rattle.qron_cli.specs.Serve.{left_of, WasServed, shown, shown_line, report_of, report_lines, is_door_fault, outcome_of_report, Reported, Reports, ServeFileRan};
-ghost use Rattle.qron_cli.specs.Lines.{is_faulty, is_unfinished, outcome_of_all};
 ghost use Rattle.qron_cli.specs.Statuses.{status_of, status_for};
 ghost use Rattle.qron_cli.specs.Stops.{StoppedAs, Stopped};
 
 use crate::complaint::Complaint;
+use crate::endings::outcome_of_all;
 use crate::files::settings_of;
 use crate::house::{House, Posts};
 use crate::printing::{print, push_number, push_word, word_of};
-use crate::seats::{is_faulty, is_unfinished};
-use crate::status::{Outcome, Work};
+use crate::status::Outcome;
 use cqc_server::{Post, Posted, Record, Served, Told, WorkerEnd, serve};
 use node_table::Settings;
 use qron_link::Door;
@@ -84,31 +83,6 @@ fn any_door_fault(ends: &[WorkerEnd]) -> bool
     ends.iter().any(is_door_fault)
 }
 
-fn any_faulty<L>(served: &[Served<L>]) -> bool
-    ensures { result ≡ list_any (λ s. is_faulty (Some s.ending)) served.now }
-{
-    served.iter().any(|one| is_faulty(&Some(one.ending)))
-}
-
-fn any_unfinished<L>(served: &[Served<L>]) -> bool
-    ensures { result ≡ list_any (λ s. is_unfinished (Some s.ending)) served.now }
-{
-    served.iter().any(|one| is_unfinished(&Some(one.ending)))
-}
-
-// What came of connections that were served.
-fn outcome_of_served<L>(served: &[Served<L>]) -> Outcome
-    ensures { result ≡ outcome_of_all (map (λ s. Some s.ending) served.now) }
-{
-    if any_faulty(served) {
-        Err(Complaint::Fault)
-    } else if any_unfinished(served) {
-        Ok(Work::Unfinished)
-    } else {
-        Ok(Work::Done)
-    }
-}
-
 // What came of serving: a fault where a door or a link failed, else what came of the connections.
 fn outcome_of_record<D: Door, W, P>(kept: &Record<D, W, P>) -> Outcome
     ensures { result ≡ outcome_of_report (report_of (left_of kept.now.entries.items kept.now.served.items kept.now.ends.items kept.now.posts.items)) }
@@ -116,7 +90,7 @@ fn outcome_of_record<D: Door, W, P>(kept: &Record<D, W, P>) -> Outcome
     if any_door_fault(kept.ends.as_slice()) {
         return Err(Complaint::Fault);
     }
-    outcome_of_served(kept.served.as_slice())
+    outcome_of_all(kept.served.as_slice())
 }
 
 // Prints the lines of a record.

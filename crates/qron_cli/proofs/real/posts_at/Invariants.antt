@@ -6,6 +6,6 @@ abbrev pub invariant-loop-seat : goal.invariant-loop-seat
 invariant-loop-seat g l = record {
   many : length l.posts.items ≡ l.seat;
   first : AreFirst l.posts.items
-      (λ p. record { node = p.node; faults = p.door.faults; closings = 0; key = p.dice.key; times = p.patience.times; gave_up = p.patience.gave_up })
+      (λ p. record { node = p.node; faults = p.door.door.faults; closings = 0; key = p.dice.key; times = p.patience.times; gave_up = p.patience.gave_up })
       l.settings.seed l.settings;
 }

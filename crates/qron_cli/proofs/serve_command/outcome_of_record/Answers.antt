@@ -8,4 +8,4 @@ pub returns : goal.returns
 returns g c =
     let kept = c.args.kept.now in
     no_door_failed kept.served.items _ kept.ends.items (length kept.entries.items) _
-    (sym (ap (list_any is_door_fault) c.as_slice.ensures.value) ∙ sym c.any_door_fault.ensures ∙ c.if-any_door_fault.false) c.as_slice-2.ensures.value c.outcome_of_served.ensures
+    (sym (ap (list_any is_door_fault) c.as_slice.ensures.value) ∙ sym c.any_door_fault.ensures ∙ c.if-any_door_fault.false) c.as_slice-2.ensures.value c.outcome_of_all.ensures
