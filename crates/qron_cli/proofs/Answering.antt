@@ -1,9 +1,7 @@
 -- How the outcomes of a command's steps make its own.
-use Rattle.std.proofs.Common.{◌≡◌, ◌≢◌, ℕ, ◌≤◌, List, [], ◌∷◌, ◌++◌, length, Option, None, Some, Result, Ok, Err, refl, sym, ap, subst, ◌∙◌, inl, inr, arith}
-use Rattle.std.specs.Prelude.{◌⊎◌, ◌↔◌, IfSome}
+use Rattle.std.proofs.Common.{◌≡◌, ℕ, ◌≤◌, List, [], length, Option, Result, Ok, Err, sym, ap, subst, ◌∙◌, inl, inr, arith}
+use Rattle.std.specs.Prelude.{IsErrAnd}
 use Rattle.session_model.specs.declared.Ending.{Ending}
-use Rattle.session_model.specs.declared.Ending.TheVariants.{Clean, Cut, ReadFault, WriteFault, Full, Spent}
-use Rattle.qron_link.specs.Outside.{Rose}
 use Rattle.factored_core.specs.Core.{Journal}
 use Rattle.session_model.specs.Turns.{Finish}
 use Rattle.network_model.specs.declared.Entry.{Entry}
@@ -15,7 +13,7 @@ use Rattle.qron_cli.specs.Pipe.{AllWords, journal_of, PipeServed, PipeAnswered, 
 use Rattle.qron_cli.specs.Replay.{Played, PlansPlayed, Replayed, ReplayRan, ReplayWithRan, NoReplay, ReplayFilesRan}
 use Rattle.qron_cli.specs.Seats.{all_planned}
 use Rattle.cqc_server.specs.Watch.{LinkSeen}
-use Rattle.qron_cli.specs.Stops.{StoppedAs}
+use Rattle.qron_cli.specs.Stops.{StoppedAs, Stopped}
 use Rattle.qron_cli.specs.Statuses.{status_of, status_for, outcome_of}
 use Rattle.qron_cli.proofs.Asking.{says_before, refuses_before}
 use Rattle.qron_cli.specs.declared.complaint.Complaint.{Complaint}
@@ -45,6 +43,13 @@ stopped_by_schedule says name nodes before after complaint.Words h = absurd h
 stopped_by_schedule says name nodes before after (complaint.Settings why) h = absurd h
 stopped_by_schedule says name nodes before after (complaint.Script why) h = absurd h
 stopped_by_schedule says name nodes before after (complaint.Schedule why) h = inl (why, h)
+
+-- a command that was stopped, and answers why
+pub stopped_at : (r : Result Work Complaint) (why : Complaint) (refused : Type 0) (before after : Facts) (old new : LinkSeen)
+    → IsErrAnd r (λ e. e ≡ why) → StoppedAs refused before after (status_for why) → new ≡ old → Stopped refused before after old new (status_of r)
+stopped_at (Ok done) why refused before after old new h stopped same = absurd h
+stopped_at (Err e) why refused before after old new h stopped same =
+    (subst (λ (x : Complaint). StoppedAs refused before after (status_for x)) (sym h) stopped, same)
 
 -- what stopped a command behind the reading of a file stopped it
 pub stopped_later : (later refused : Type 0) (before between after : Facts) (status : Status) → before.faults ≤ between.faults

@@ -1,11 +1,10 @@
 -- What one ask leaves of what a house tells.
 use Rattle.std.proofs.Common.{◌≡◌, ℕ, List, [], ◌∷◌, ◌++◌, drop, Option, None, Some, refl, sym, ap, subst, ◌∙◌, inl, inr}
 use Rattle.std.proofs.lemmas.Bool.{false≢true}
-use Rattle.std.specs.Prelude.{◌⊎◌, IfSome, IsSome, IsSomeAnd, option_map, length, ◌<◌, Ok, Result}
+use Rattle.std.specs.Prelude.{IfSome, IsSome, IsSomeAnd, option_map, length, ◌<◌, Ok}
 use Rattle.node_table.specs.declared.settings.Settings.{Settings}
-use Rattle.node_table.specs.declared.settings.SettingsFault.{SettingsFault}
 use Rattle.node_table.specs.Document.{settings_of}
-use Rattle.qron_cli.specs.House.{Ask, ask_file, ask_posts, asks_by, asks_in, asks_behind, Facts, Allows, TellsFiles, WasAsked, IsFile, IsTooLong, file_limit}
+use Rattle.qron_cli.specs.House.{Ask, ask_file, ask_posts, asks_by, asks_in, asks_behind, Facts, Allows, TellsFiles, WasAsked, IsTooLong, file_limit}
 use Rattle.qron_cli.specs.Files.{Holds, SaysSettings, SaysSchedule, NoSchedule}
 use Rattle.schedule.specs.Plans.{Plans}
 

@@ -9,7 +9,7 @@ use Rattle.std.proofs.lemmas.List.Elements.{All-nil, All-cons, All-append}
 use Rattle.text_lines.specs.Words.{number_up_to, number_between, address_of}
 use Rattle.text_lines.proofs.NumberLemmas.{number_up_to-Some}
 use Rattle.cqc_client.specs.Drill.{turns, in_rounds}
-use Rattle.word_lines.specs.Lines.{pipe, replay, serve, talk, drill, is_dashed, pipe_line, replay_line, serve_line, talk_line, drill_line, line_behind, line_of}
+use Rattle.word_lines.specs.Lines.{talk, drill, is_dashed, pipe_line, replay_line, serve_line, talk_line, drill_line, line_behind, line_of}
 use Rattle.cqc_client.specs.Drill.{first_list, second_list, IsDrill}
 use Rattle.cqc_client.specs.Tally.{lines_of}
 use Rattle.cqc_client.specs.declared.plan.DrillPlan.{DrillPlan}

@@ -1,5 +1,5 @@
 -- The lines of connections, one by one, and what came of all.
-use Rattle.std.proofs.Common.{◌≡◌, ℕ, suc, ◌+◌, ◌<◌, List, [], ◌∷◌, ◌++◌, length, get_or, take, map, Option, None, Some, Bool, true, false, Ok, Err, refl, sym, ap, subst, ◌∙◌, arith, take-suc, length-take-le}
+use Rattle.std.proofs.Common.{◌≡◌, ℕ, suc, ◌+◌, ◌<◌, List, [], ◌∷◌, ◌++◌, length, get_or, take, map, Option, None, Some, Bool, true, false, Ok, Err, refl, sym, ap, ◌∙◌, arith, take-suc, length-take-le}
 use Rattle.std.specs.Prelude.{if◌then◌else◌, Result}
 use Rattle.std.specs.List.{list_any}
 use Rattle.std.specs.Result.{is_ok, is_err}

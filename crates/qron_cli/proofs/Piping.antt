@@ -1,5 +1,5 @@
 -- A session over the program's core is one connection that takes turns alone.
-use Rattle.std.proofs.Common.{◌≡◌, ◌≢◌, ℕ, ◌≤◌, List, [], ◌++◌, length, Option, None, refl, sym, ap, subst, ◌∙◌, arith}
+use Rattle.std.proofs.Common.{◌≡◌, ◌≢◌, ℕ, ◌≤◌, List, [], length, Option, None, refl, sym, ap, subst, ◌∙◌, arith}
 use Rattle.std.specs.Prelude.{nat_lt, ◌&&◌, if◌then◌else◌, Bool, true, false}
 use Rattle.std.proofs.lemmas.List.{append-nil}
 use Rattle.cqc_model.specs.Plan.{messages}

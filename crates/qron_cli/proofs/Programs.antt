@@ -28,7 +28,7 @@ use Rattle.qron_cli.specs.declared.complaint.Complaint.TheVariants as complaint
 use Rattle.qron_cli.specs.declared.status.Work.TheVariants as work
 use Rattle.qron_cli.specs.Talk.{Spoke, outcome_of_talk}
 use Rattle.qron_cli.specs.declared.status.Status.{Status}
-use Rattle.qron_cli.specs.declared.status.Status.TheVariants.{Done, Words, Memory, Fault, Unfinished}
+use Rattle.qron_cli.specs.declared.status.Status.TheVariants.{Words, Memory}
 
 -- a house that tells no asks may be asked for all
 pub untold : (line : Option Line) (facts : Facts) → facts.asks ≡ None → MayAsk line facts

@@ -1,10 +1,9 @@
 -- Connections that sit at their places are those of the definition of turns, and can take turns.
-use Rattle.std.proofs.Common.{◌≡◌, ℕ, zero, suc, ◌+◌, ◌<◌, ◌≤◌, ◌^◌, List, [], ◌∷◌, ◌++◌, length, get_or, map, Option, None, Some, refl, sym, ap, subst, ◌∙◌, arith}
-use Rattle.std.specs.Prelude.{slice_get, IfSome, All, Bool, true, false, if◌then◌else◌, Result, Ok, Err}
+use Rattle.std.proofs.Common.{◌≡◌, ℕ, zero, suc, ◌+◌, ◌<◌, ◌^◌, List, [], ◌∷◌, ◌++◌, length, get_or, map, Option, None, Some, refl, sym, ap, subst, ◌∙◌, arith}
+use Rattle.std.specs.Prelude.{slice_get, IfSome, All, true, false, if◌then◌else◌, Result, Ok, Err}
 use Rattle.std.specs.Result.{is_ok, is_err}
 use Rattle.std.proofs.lemmas.List.{length-map, map-append}
 use Rattle.std.proofs.lemmas.List.Elements.{All-push}
-use Rattle.session_model.specs.declared.Ending.{Ending}
 use Rattle.network_model.specs.Network.{Shape}
 use Rattle.factored_core.specs.Core.{Journal}
 use Rattle.session_model.specs.Turns.{Actor, Finish, AreTurns, takers_of, actor_end}
@@ -14,11 +13,10 @@ use Rattle.schedule.specs.declared.plans.Planned.{Planned}
 use Rattle.schedule.specs.Plans.{Plan}
 use Rattle.schedule.specs.Views.{plan}
 use Rattle.qron_link.specs.MemLinks.{Memory, new_memory}
-use Rattle.cqc_session.specs.State.{State, begun}
+use Rattle.cqc_session.specs.State.{begun}
 use Rattle.cqc_server.specs.Replay.{HasBegun}
 use Rattle.cqc_server.specs.Replay as replay
 use Rattle.cqc_server.specs.InMemory.{IsUnused, planned_actor}
-use Rattle.cqc_server.specs.Record.{read_limit}
 use Rattle.qron_cli.specs.Pipe.{AllWords}
 use Rattle.qron_cli.specs.Seats.{Seat, connection_at, planned, all_planned, piece, seated, all_seated, ends_of}
 use Rattle.qron_cli.specs.Printed.{Printed}

@@ -1,5 +1,5 @@
 -- A network that is served: its report, and what the command comes to.
-use Rattle.std.proofs.Common.{◌≡◌, ℕ, suc, ◌+◌, ◌<◌, List, [], ◌∷◌, ◌++◌, length, get_or, take, map, Option, None, Some, Bool, true, false, Result, Ok, Err, refl, sym, ap, subst, ◌∙◌, inl, inr, arith, take-suc}
+use Rattle.std.proofs.Common.{◌≡◌, ℕ, suc, ◌+◌, ◌<◌, List, [], ◌∷◌, ◌++◌, length, get_or, take, map, Option, None, Some, Bool, false, Result, Err, refl, sym, ap, subst, ◌∙◌, inl, inr, arith, take-suc}
 use Rattle.std.specs.Prelude.{◌⊎◌, IfSome, if◌then◌else◌}
 use Rattle.std.specs.List.{list_any, flat_map}
 use Rattle.std.proofs.lemmas.List.{map-append}
@@ -12,14 +12,13 @@ use Rattle.cqc_server.specs.declared.record.WorkerEnd.{WorkerEnd}
 use Rattle.qron_cli.specs.Files.{SaysSettings, NoSettings}
 use Rattle.qron_cli.specs.House.{Facts, WasAsked}
 use Rattle.qron_cli.specs.Lines.{outcome_of_all}
-use Rattle.qron_cli.specs.Serve.{Left, WasServed, Shown, shown, Report, report_of, shown_line, is_door_fault, outcome_of_report, Reported, Reports, NetworkServed, ServeFileRan}
+use Rattle.qron_cli.specs.Serve.{Left, WasServed, Shown, shown, report_of, shown_line, is_door_fault, outcome_of_report, Reported, Reports, NetworkServed, ServeFileRan}
 use Rattle.qron_cli.specs.Stops.{StoppedAs, Stopped}
 use Rattle.qron_cli.proofs.Answering.{stopped_later}
 use Rattle.qron_cli.specs.declared.complaint.Complaint.{Complaint}
 use Rattle.qron_cli.specs.declared.complaint.Complaint.TheVariants.{Fault}
 use Rattle.qron_cli.specs.declared.status.Work.{Work}
 use Rattle.qron_cli.specs.declared.status.Status.{Status}
-use Rattle.qron_cli.specs.declared.status.Status.TheVariants.{Memory}
 
 -- the line of the next connection behind those in front of it
 pub shown_next : {L : Type 0} (served : List (Served L)) (n : ℕ) (d : Served L) (before more after : List ℕ) → n < length served

@@ -1,5 +1,5 @@
 -- A client's talk: what its steps come to.
-use Rattle.std.proofs.Common.{◌≡◌, ℕ, ◌≤◌, List, length, Result, Ok, Err, sym, ap, ◌∙◌, inl, inr, arith}
+use Rattle.std.proofs.Common.{◌≡◌, ℕ, ◌≤◌, List, length, Ok, Err, sym, ap, ◌∙◌, inl, inr, arith}
 use Rattle.script.specs.Drafts.{Sending}
 use Rattle.script.specs.Script.{script_of}
 use Rattle.script.proofs.Sendable.{AreSendable, from_script}

@@ -1,5 +1,5 @@
 -- Connections that take turns over a core of their own, and what is printed of them.
-use Rattle.std.specs.Prelude.{◌≡◌, ◌⊎◌, ℕ, List, [], length, map, Option}
+use Rattle.std.specs.Prelude.{◌⊎◌, ℕ, List, [], length, map, Option}
 use Rattle.network_model.specs.Network.{Shape}
 use Rattle.network_model.specs.declared.Entry.{Entry}
 use Rattle.session_model.specs.Turns.{Actor, Finish, AreTurns, takers_of}

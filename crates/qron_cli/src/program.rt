@@ -78,22 +78,6 @@ fn conclude<H: House>(house: &mut H, outcome: &Outcome) -> Status
     Status::of(outcome)
 }
 
-// Does what the words ask for, and says what it complains of.
-fn answer<H: House, R: Threads + Wait + Sync>(
-    rt: &R,
-    alloc: Global,
-    words: &[String],
-    house: &mut H,
-) -> Status
-    requires { MayAsk (line_of (map string_bytes words.now)) (H.facts house.old) }
-    ensures { Answered H.Dice.word (Handed (⟦<H::Link as Told>⟧.seen) H.Link.was_led (H.handed house.old) (H.handed house.new))
-        (Reports (⟦<Post<H::Door, H::Dice, H::Patience> as Posted>⟧.watch) (H.facts house.old).keys (H.posted house.old) (H.posted house.new)) (line_of (map string_bytes words.now))
-        (H.facts house.old) (H.facts house.new) (⟦<H::Pipe as Told>⟧.seen (H.pipe_of house.old)) (⟦<H::Pipe as Told>⟧.seen (H.pipe_of house.new)) result }
-{
-    let outcome = run_words(rt, alloc, words, house);
-    conclude(house, &outcome)
-}
-
 /// Does all that the program does, and gives its status. Only serving starts threads and waits.
 pub fn run<H: House, R: Threads + Wait + Sync>(
     rt: &R,
@@ -116,5 +100,6 @@ pub fn run<H: House, R: Threads + Wait + Sync>(
         (Reports (⟦<Post<H::Door, H::Dice, H::Patience> as Posted>⟧.watch) (H.facts house.old).keys (H.posted house.old) (H.posted house.new)) line
         (H.facts house.old) (H.facts house.new) (⟦<H::Pipe as Told>⟧.seen (H.pipe_of house.old)) (⟦<H::Pipe as Told>⟧.seen (H.pipe_of house.new)) result) }
 {
-    answer(rt, alloc, words, house)
+    let outcome = run_words(rt, alloc, words, house);
+    conclude(house, &outcome)
 }

@@ -1,5 +1,4 @@
-use Rattle.std.proofs.Common.{refl, sym, ap, ◌∙◌, true, false, Bool, Ok, Err}
-use Rattle.std.specs.Prelude.{if◌then◌else◌, Result}
+use Rattle.std.proofs.Common.{refl, sym, ◌∙◌, true, false}
 use Rattle.qron_cli.proofs.LineLemmas.{outcome_by}
 use Rattle.qron_cli.proofs.endings.outcome_of_all.Goals as goal
 

@@ -1,4 +1,3 @@
-use Rattle.std.proofs.Common.{ℕ, List}
 use Rattle.cqc_server.specs.Watch.{LinkSeen}
 use Rattle.qron_cli.proofs.Piping.{journal_served}
 use Rattle.qron_cli.proofs.pipe_command.serve_pipe.Goals as goal

@@ -1,4 +1,4 @@
-use Rattle.std.proofs.Common.{◌≡◌, Some, refl, ap, ◌∙◌, get_or, string_bytes}
+use Rattle.std.proofs.Common.{◌≡◌, Some, ap, ◌∙◌, get_or, string_bytes}
 use Rattle.qron_cli.specs.Lines.{end_line}
 use Rattle.qron_link.specs.MemLinks.{Memory}
 use Rattle.cqc_server.specs.declared.actor.Actor.{Actor}

@@ -1,4 +1,4 @@
-use Rattle.std.proofs.Common.{◌≡◌, ◌*◌, ◌<◌, ◌≤◌, length, refl, sym, ap, ◌∙◌, arith}
+use Rattle.std.proofs.Common.{◌≡◌, ◌*◌, length, refl, ap, ◌∙◌, arith}
 use Rattle.qron_cli.proofs.PostLemmas.{where_ok, node_below, all_given}
 use Rattle.qron_cli.proofs.real.posts_at.Goals as goal
 

@@ -1,12 +1,11 @@
-use Rattle.std.proofs.Common.{ap, inl, inr, arith}
-use Rattle.std.proofs.lemmas.Result.{err_from_is_err_and}
+use Rattle.std.proofs.Common.{ap, inl, arith}
 use Rattle.node_table.specs.declared.settings.Settings.{Settings}
 use Rattle.node_table.specs.Document.{IsInRange}
 use Rattle.qron_cli.specs.Files.{SaysSettings, NoSettings}
 use Rattle.qron_cli.specs.Replay.{NoReplay}
 use Rattle.cqc_server.specs.Watch.{LinkSeen}
 use Rattle.qron_cli.specs.Statuses.{status_of, status_for}
-use Rattle.qron_cli.proofs.Answering.{stopped_by_settings, stopped_later, replay_with_files}
+use Rattle.qron_cli.proofs.Answering.{stopped_at, stopped_by_settings, stopped_later, replay_with_files}
 use Rattle.qron_cli.proofs.replay_command.run_replay.Goals as goal
 
 pub returns-in_err-settings : goal.returns-in_err-settings
@@ -16,12 +15,9 @@ returns-in_err-settings g c =
     let before = g.H.House.facts c.args.house.now in
     let after = g.H.House.facts c.settings_of.new.house in
     let why = c.in_err-settings.field-0.0 in
-    let p = err_from_is_err_and c.from_residual.result c.from_residual.ensures.1 in
-    rw (p.1, p.2) (inl (
-      stopped_later (NoSettings before name) (NoReplay before name c.args.schedule.now) before before after (status_for why) (omega arith) inl
-          (stopped_by_settings (λ (s : Settings). SaysSettings before name s × IsInRange s) name before after why c.in_err-settings.ensures.gave),
-      ap seen c.settings_of.ensures.pipe,
-    ))
+    inl (stopped_at c.from_residual.result why (NoReplay before name c.args.schedule.now) before after _ _ c.from_residual.ensures.1
+    (stopped_later (NoSettings before name) (NoReplay before name c.args.schedule.now) before before after (status_for why) (omega arith) inl
+    (stopped_by_settings (λ (s : Settings). SaysSettings before name s × IsInRange s) name before after why c.in_err-settings.ensures.gave)) (ap seen c.settings_of.ensures.pipe))
 
 pub returns : goal.returns
 returns g c =

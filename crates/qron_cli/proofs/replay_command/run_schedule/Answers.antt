@@ -1,4 +1,4 @@
-use Rattle.std.proofs.Common.{map, Some, refl, sym, ap, ◌∙◌, inr}
+use Rattle.std.proofs.Common.{map, Some, sym, ap, ◌∙◌, inr}
 use Rattle.qron_link.specs.MemLinks.{Memory}
 use Rattle.cqc_server.specs.declared.actor.Actor.{Actor}
 use Rattle.cqc_server.specs.Replay.{Seen}

@@ -1,4 +1,4 @@
-use Rattle.std.proofs.Common.{◌≡◌, List, map, length, Some, refl, sym, ap, ◌∙◌, arith, take_at}
+use Rattle.std.proofs.Common.{◌≡◌, map, length, Some, refl, ap, ◌∙◌, arith, take_at}
 use Rattle.session_model.specs.Turns.{actor_end}
 use Rattle.cqc_server.specs.InMemory.{planned_actor, shown_end}
 use Rattle.factored_core.specs.Core.{Journal}

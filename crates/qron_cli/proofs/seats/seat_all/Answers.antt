@@ -1,4 +1,4 @@
-use Rattle.std.proofs.Common.{◌≡◌, ◌<◌, ◌+◌, ◌≤◌, List, [], ◌∷◌, length, ◌∙◌, ap, arith, length-append}
+use Rattle.std.proofs.Common.{◌≡◌, [], ◌∷◌, length, ◌∙◌, ap, arith, length-append}
 use Rattle.qron_link.specs.MemLinks.{Memory}
 use Rattle.cqc_server.specs.declared.actor.Actor.{Actor}
 use Rattle.qron_cli.specs.House.{Facts}

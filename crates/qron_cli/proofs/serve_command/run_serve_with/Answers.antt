@@ -1,13 +1,11 @@
 use Rattle.std.proofs.Common.{ap, inl}
-use Rattle.std.proofs.lemmas.Result.{err_from_is_err_and}
 use Rattle.node_table.specs.declared.settings.Settings.{Settings}
 use Rattle.node_table.specs.Document.{IsInRange}
 use Rattle.cqc_server.specs.Watch.{LinkSeen}
-use Rattle.qron_cli.specs.Files.{SaysSettings}
+use Rattle.qron_cli.specs.Files.{SaysSettings, NoSettings}
 use Rattle.qron_cli.specs.Serve.{left_of}
 use Rattle.qron_cli.specs.Statuses.{status_of}
-use Rattle.qron_cli.proofs.Answering.{stopped_by_settings}
-use Rattle.qron_cli.proofs.Asking.{first_allowed, posts_allowed}
+use Rattle.qron_cli.proofs.Answering.{stopped_at, stopped_by_settings}
 use Rattle.qron_cli.proofs.ServeLemmas.{serving_did, serve_with_file}
 use Rattle.qron_cli.proofs.serve_command.run_serve_with.Goals as goal
 
@@ -16,12 +14,9 @@ returns-in_err-settings g c =
     let seen : g.row.H-Pipe.Denot → LinkSeen = λ pipe. record { left = g.H.Pipe.Source.left pipe; held = g.H.Pipe.Sink.held pipe; read_faults = g.H.Pipe.Source.read_faults pipe; write_faults = g.H.Pipe.Sink.write_faults pipe } in
     let name = c.args.settings.now in
     let before = g.H.House.facts c.args.house.now in
-    let p = err_from_is_err_and c.from_residual.result c.from_residual.ensures.1 in
-    rw (p.1, p.2) (inl (
-      stopped_by_settings (λ (s : Settings). SaysSettings before name s × IsInRange s) name before (g.H.House.facts c.settings_of.new.house) c.in_err-settings.field-0.0
-          c.in_err-settings.ensures.gave,
-      ap seen c.settings_of.ensures.pipe,
-    ))
+    inl (stopped_at c.from_residual.result c.in_err-settings.field-0.0 (NoSettings before name) before (g.H.House.facts c.settings_of.new.house) _ _ c.from_residual.ensures.1
+    (stopped_by_settings (λ (s : Settings). SaysSettings before name s × IsInRange s) name before (g.H.House.facts c.settings_of.new.house) c.in_err-settings.field-0.0
+    c.in_err-settings.ensures.gave) (ap seen c.settings_of.ensures.pipe))
 
 pub returns : goal.returns
 returns g c =
