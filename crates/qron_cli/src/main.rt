@@ -18,6 +18,8 @@ mod errors;
 mod files;
 mod house;
 #[cfg(test)]
+mod loopback_tests;
+#[cfg(test)]
 mod mem_house;
 mod pipe_command;
 mod posts;

@@ -21,9 +21,9 @@ use virtual_node::Shape;
 /// The address of this machine.
 pub const LOCALHOST: u32 = 0x7f00_0001;
 
-/// A writer that takes so many bytes, and then fails.
+// A writer that takes so many bytes, and then fails.
 #[derive(Drop)]
-pub struct Bounded {
+struct Bounded {
     room: usize,
 }
 
@@ -56,8 +56,8 @@ impl Voice for Mute {
     fn say(&self, _line: &str) {}
 }
 
-/// A pipe that has gathered eight bytes, since input was read ahead.
-pub fn gathering(alloc: Global, room: usize) -> Result<Pipe<Cursor<Vec<u8>>, Bounded>, Fail> {
+// A pipe that has gathered eight bytes, since input was read ahead.
+fn gathering(alloc: Global, room: usize) -> Result<Pipe<Cursor<Vec<u8>>, Bounded>, Fail> {
     let input = vec![in alloc; 0; 16]?;
     let mut pipe = Pipe::new(alloc, Cursor::new(input), Bounded { room })?;
     let mut head = [0; 8];
