@@ -4,7 +4,7 @@ import sys
 import time
 
 from checks import holds, run, same
-from cqc import COMMAND, GENERAL, HELLO, TIMEOUT, Script, command, header, message
+from cqc import COMMAND, GENERAL, HELLO, NEW_OK, TIMEOUT, Script, command, header, message
 from server import Link, Server, finish, free_ports, settings, start
 
 PROGRAM = sys.argv[1]
@@ -197,10 +197,11 @@ def waits():
         same("waits", server.all_clean(one.entries + other.entries + near_script.entries), server.finish())
     with Server(PROGRAM, 1, 1, 1, patience=10, wait_ms=20) as server:
         link = server.connect(0)
-        link.send(message(9, command("recv")))
+        link.send(message(9, command("new") + command("recv")))
+        same("the reply before a call that waits", header(NEW_OK, 9, 2) + b"\0\0", link.take(10))
         holds("it waits", link.silent(0.05))
         link.reset()
-        same("a peer that fails while its call waits", (4, ["0 0 0 readfault", "entries 1"], "qron: fault\n"), server.finish())
+        same("a peer that fails while its call waits", (4, ["0 0 0 readfault", "entries 2"], "qron: fault\n"), server.finish())
     with Server(PROGRAM, 1, 1, 1, patience=0, wait_ms=1_000) as server:
         script = Script(0)
         with server.connect(0) as link:

@@ -1,6 +1,7 @@
 """A running `qron serve`, and connections to it."""
 import ctypes
 import random
+import resource
 import signal
 import socket
 import struct
@@ -43,9 +44,14 @@ def settings(ports, **keys):
     return "\n".join(lines) + "\n"
 
 
+# files and sockets that a server may have at once: enough for 64 workers, and too few to keep those of ended connections
+FILES = 256
+
+
 def die_with_parent():
     """Done by a program before it runs, so that it doesn't outlive a run of cases that is killed."""
     ctypes.CDLL(None).prctl(1, signal.SIGKILL)
+    resource.setrlimit(resource.RLIMIT_NOFILE, (FILES, FILES))
 
 
 def start(program, text, output=subprocess.PIPE, errors=subprocess.PIPE):

@@ -119,7 +119,7 @@ fn talked<S: Files + Net<Listener = TcpListener, Stream = TcpStream> + Wait + Sy
 fn client_is_answered_by_a_served_node(rt: HostRuntime) -> Result<(), Fail> {
     let alloc = rt.alloc();
     // nobody else has this port, so it is free once this door is gone
-    let door = TcpDoor::bind(&rt, LOCALHOST, 0)?;
+    let door = TcpDoor::bind(rt.alloc(), &rt, LOCALHOST, 0)?;
     let port = door.port()?;
     drop(door);
     let (came, talked) = thread::join(
