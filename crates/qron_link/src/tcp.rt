@@ -110,7 +110,11 @@ impl Sink for TcpLink {
     ghost writes_on = { λ _ _ _ h k. k ∙ h };
 
     fn write(&mut self, piece: &[u8]) -> Put {
-        match self.socket.as_mut().map(|socket| socket.output.write(piece)) {
+        match self
+            .socket
+            .as_mut()
+            .map(|socket| socket.output.write(piece))
+        {
             Some(Ok(n)) if n > 0 => Put::Bytes(n),
             _ => {
                 self.write_faults = self.write_faults.saturating_add(1);
