@@ -3,22 +3,25 @@ ghost use Rattle.std.specs.Borrow.{sem};
 ghost use Rattle.std.specs.Prelude.{◌≡◌, ◌≢◌, ◌<◌, ◌↔◌, ◌++◌, ◌∷◌, [], ℕ, IsTrue, IsSome, Some, None, is_some, length, slice_get, option_map};
 ghost use Rattle.core_cells.specs.Cells.{HasHome};
 ghost use Rattle.core_cells.specs.Nodes.{NodeValues};
+ghost use Rattle.core_cells.specs.declared.cells.PoolPair.{PoolPair as PoolIs};
 ghost use Rattle.held_board.specs.Seats.{place, cell_of, without_cell};
 ghost use Rattle.held_board.specs.Held.{held_cells, HasNone, IsVacant};
 ghost use Rattle.held_board.specs.HeldLends.{LendsSlot, LendsSlotSeats, LendsTwoSeats, LendsTwoCells};
 
 use crate::seat::Seat;
 use crate::seats::{Seats, place_of};
-use core_cells::{Board, NodePair, PoolPair, SlotCell, two_of};
+use cell_box::CellBox;
+use core_cells::{Board, NodePair, PoolCell, PoolPair, SlotCell, two_of};
 use std::marker::Model;
+use std::ops::DerefMut;
 use virtual_node::NodeCell;
 
 /// At most three nodes, the pool or not, and at most three slots, each under its number.
 #[derive(Drop)]
 pub struct HeldBoard {
-    nodes: Seats<NodePair>,
-    pool: Seat<PoolPair>,
-    slots: Seats<SlotCell>,
+    nodes: Seats<CellBox<NodePair>>,
+    pool: Seat<CellBox<PoolPair>>,
+    slots: Seats<CellBox<SlotCell>>,
 }
 
 impl Model for HeldBoard {
@@ -52,7 +55,7 @@ impl HeldBoard {
     }
 
     /// Puts a node's cell under its number.
-    pub fn put_node(&mut self, number: u8, cell: NodePair)
+    pub fn put_node(&mut self, number: u8, cell: CellBox<NodePair>)
         requires { length self.old.nodes < 3 }
         ensures { self.new ≡ record self.old { nodes = self.old.nodes ++ record { number = number; cell = Some cell } ∷ [] } }
     {
@@ -74,7 +77,7 @@ impl HeldBoard {
     }
 
     /// Takes a node's cell out, where it is there.
-    pub fn take_node(&mut self, number: u8) -> Option<NodePair>
+    pub fn take_node(&mut self, number: u8) -> Option<CellBox<NodePair>>
         ensures cell { result ≡ cell_of self.old.nodes number }
         ensures rest { self.new ≡ record self.old { nodes = without_cell self.old.nodes number } }
     {
@@ -82,21 +85,21 @@ impl HeldBoard {
     }
 
     /// Puts the pool's cell.
-    pub fn put_pool(&mut self, cell: PoolPair)
+    pub fn put_pool(&mut self, cell: CellBox<PoolPair>)
         ensures { self.new ≡ record self.old { pool = Some cell } }
     {
         self.pool.cell = Some(cell);
     }
 
-    /// Whether the pool is there.
-    pub fn has_pool(&self) -> bool
-        ensures { result ≡ is_some self.now.pool }
+    /// Lends the pool's value to be read, where the pool is there.
+    pub fn pool_value(&self) -> Option<&PoolCell>
+        ensures { option_map (λ cell. cell.now) result ≡ option_map (λ (w : PoolIs). w.now) self.now.pool }
     {
-        self.pool.cell.is_some()
+        Some(&self.pool.peek()?.now)
     }
 
     /// Takes the pool's cell out, where it is there.
-    pub fn take_pool(&mut self) -> Option<PoolPair>
+    pub fn take_pool(&mut self) -> Option<CellBox<PoolPair>>
         ensures cell { result ≡ self.old.pool }
         ensures rest { self.new ≡ record self.old { pool = None } }
     {
@@ -111,7 +114,7 @@ impl HeldBoard {
     }
 
     /// Puts a slot's cell under its number.
-    pub fn put_slot(&mut self, number: u8, cell: SlotCell)
+    pub fn put_slot(&mut self, number: u8, cell: CellBox<SlotCell>)
         requires { length self.old.slots < 3 }
         ensures { self.new ≡ record self.old { slots = self.old.slots ++ record { number = number; cell = Some cell } ∷ [] } }
     {
@@ -126,7 +129,7 @@ impl HeldBoard {
     }
 
     /// Takes a slot's cell out, where it is there.
-    pub fn take_slot(&mut self, number: u8) -> Option<SlotCell>
+    pub fn take_slot(&mut self, number: u8) -> Option<CellBox<SlotCell>>
         ensures cell { result ≡ cell_of self.old.slots number }
         ensures rest { self.new ≡ record self.old { slots = without_cell self.old.slots number } }
     {
@@ -159,15 +162,15 @@ impl Board for HeldBoard {
     ghost are_put = { held_are_put };
 
     fn node(&mut self, node: u8) -> &mut NodePair {
-        self.nodes.get(node)
+        self.nodes.get(node).deref_mut()
     }
 
     fn pool(&mut self) -> &mut PoolPair {
-        self.pool.cell()
+        self.pool.cell().deref_mut()
     }
 
     fn slot(&mut self, slot: u8) -> &mut SlotCell {
-        self.slots.get(slot)
+        self.slots.get(slot).deref_mut()
     }
 
     fn slots(&mut self, one: u8, two: u8) -> (&mut SlotCell, &mut SlotCell) {
@@ -183,7 +186,7 @@ impl Board for HeldBoard {
 }
 
 // Lends all slots' seats.
-fn all_slots(board: &mut HeldBoard) -> &mut [Seat<SlotCell>]
+fn all_slots(board: &mut HeldBoard) -> &mut [Seat<CellBox<SlotCell>>]
     ensures* writes_back { sem 𝓛 (LendsSlotSeats board.entry result) }
     ensures value { result.now ≡ board.old.slots }
 {
@@ -192,10 +195,10 @@ fn all_slots(board: &mut HeldBoard) -> &mut [Seat<SlotCell>]
 
 // Lends two slots' seats.
 fn two_seats(
-    seats: &mut [Seat<SlotCell>],
+    seats: &mut [Seat<CellBox<SlotCell>>],
     one: u8,
     two: u8,
-) -> (&mut Seat<SlotCell>, &mut Seat<SlotCell>)
+) -> (&mut Seat<CellBox<SlotCell>>, &mut Seat<CellBox<SlotCell>>)
     requires { (one ≢ two) × IsSome (cell_of seats.old one) × IsSome (cell_of seats.old two) }
     ensures* writes_back { sem 𝓛 (LendsTwoSeats seats.entry (place seats.old one) (place seats.old two) result) }
     ensures value { (slice_get seats.old (place seats.old one) ≡ Some result.0.now) × (slice_get seats.old (place seats.old two) ≡ Some result.1.now) }
@@ -206,7 +209,11 @@ fn two_seats(
 }
 
 // Lends two slots.
-fn two_cells(seats: &mut [Seat<SlotCell>], one: u8, two: u8) -> (&mut SlotCell, &mut SlotCell)
+fn two_cells(
+    seats: &mut [Seat<CellBox<SlotCell>>],
+    one: u8,
+    two: u8,
+) -> (&mut SlotCell, &mut SlotCell)
     requires { (one ≢ two) × IsSome (cell_of seats.old one) × IsSome (cell_of seats.old two) }
     ensures* writes_back { sem 𝓛 (LendsTwoCells seats.entry one two result) }
     ensures value { (cell_of seats.old one ≡ Some result.0.now) × (cell_of seats.old two ≡ Some result.1.now) }
@@ -216,10 +223,10 @@ fn two_cells(seats: &mut [Seat<SlotCell>], one: u8, two: u8) -> (&mut SlotCell, 
 }
 
 // Lends the slot in a seat.
-fn slot_in(seat: &mut Seat<SlotCell>) -> &mut SlotCell
+fn slot_in(seat: &mut Seat<CellBox<SlotCell>>) -> &mut SlotCell
     requires { IsSome seat.old.cell }
     ensures* writes_back { sem 𝓛 (LendsSlot seat.entry result) }
     ensures value { seat.old.cell ≡ Some result.now }
 {
-    seat.cell()
+    seat.cell().deref_mut()
 }

@@ -6,6 +6,7 @@ ghost use Rattle.held_board.specs.SeatsLends.{LendsSeatIf, LendsSeat, LendsNumbe
 
 use crate::seat::Seat;
 use arrayvec::ArrayVec;
+use cell_box::CellBox;
 use core_cells::SlotCell;
 use std::marker::Model;
 
@@ -121,7 +122,7 @@ impl<T: Drop> Seats<T> {
     }
 }
 
-impl Seats<SlotCell> {
+impl Seats<CellBox<SlotCell>> {
     /// The number of a slot whose register lists a qubit number, if there is one.
     pub(crate) fn home(&self, qubit: u8) -> Option<u8>
         ensures { IsHomeIn self.now qubit result }
@@ -131,7 +132,7 @@ impl Seats<SlotCell> {
 }
 
 // The number of a slot whose register lists a qubit number, if there is one.
-fn home_in(seats: &[Seat<SlotCell>], qubit: u8) -> Option<u8>
+fn home_in(seats: &[Seat<CellBox<SlotCell>>], qubit: u8) -> Option<u8>
     ensures { IsHomeIn seats.now qubit result }
 {
     for seat in seats {
@@ -143,7 +144,7 @@ fn home_in(seats: &[Seat<SlotCell>], qubit: u8) -> Option<u8>
 }
 
 // Whether the register of a slot that is there lists a qubit number.
-fn lists_qubit(seats: &[Seat<SlotCell>], slot: u8, qubit: u8) -> bool
+fn lists_qubit(seats: &[Seat<CellBox<SlotCell>>], slot: u8, qubit: u8) -> bool
     ensures { result ≡ lists (cell_of seats.now slot) qubit }
 {
     match peek_in(seats, slot) {

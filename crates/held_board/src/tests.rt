@@ -1,5 +1,6 @@
 //! A board with some cells.
 use crate::HeldBoard;
+use cell_box::CellBox;
 use core_cells::{Ending, NodePair, SlotCell};
 use qubit_handles::Handle;
 use std::alloc::{AllocError, Global};
@@ -17,20 +18,23 @@ fn holding() -> NodeCell {
 }
 
 // A slot whose register has one qubit.
-fn slot_with(alloc: Global, number: u8) -> Result<SlotCell, AllocError> {
+fn slot_with(alloc: Global, number: u8) -> Result<CellBox<SlotCell>, AllocError> {
     let mut slot = SlotCell::new(alloc, 2)?;
     slot.register.set_basis(number, false);
-    Ok(slot)
+    CellBox::new(alloc, slot)
 }
 
 #[test]
 fn nodes_are_found_by_their_numbers(rt: HostRuntime) {
     let mut board = HeldBoard::new();
-    board.put_node(4, NodePair::new());
+    board.put_node(
+        4,
+        CellBox::new(rt.alloc(), NodePair::new()).expect(&rt, "memory"),
+    );
     let mut pair = NodePair::new();
     pair.prepare(&holding());
     pair.end(Ending::Settle);
-    board.put_node(2, pair);
+    board.put_node(2, CellBox::new(rt.alloc(), pair).expect(&rt, "memory"));
     assert!(rt; board.has_node(4) && board.has_node(2) && !board.has_node(0));
     assert_eq!(rt; board.node_value(2).map(|node| node.held()), Some(1));
     assert!(rt; board.node_value(0).is_none());
