@@ -2,18 +2,20 @@
 ghost use Rattle.std.specs.Prelude.{◌≡◌, true};
 ghost use Rattle.hub_cells.specs.Cell.{has_next, ended_cell, settled_cell, forgotten_cell};
 
+use cell_box::CellBox;
 use commit_journal::Cells;
 use core_cells::{Ending, NodePair, PoolPair, SlotCell};
 
-/// A node, the pool or a slot, each with a value and a prepared next value or none.
+/// A node, the pool or a slot, each with a value and a prepared next value or none. It is boxed, since it is moved between
+/// its lock and a board for each call.
 #[derive(Drop)]
 pub enum Cell {
     /// What a node holds, and what waits there.
-    Node(NodePair),
+    Node(CellBox<NodePair>),
     /// What is free.
-    Pool(PoolPair),
+    Pool(CellBox<PoolPair>),
     /// A slot's register.
-    Slot(SlotCell),
+    Slot(CellBox<SlotCell>),
 }
 
 impl Cell {
