@@ -28,28 +28,28 @@ slot_is : (v w : SlotCell) → Slot v ≡ Slot w → v ≡ w
 slot_is v w e = cc (e)
 
 -- ---- one cell
-pub node_opens : (shape : Shape) (n : ℕ) (p : NodeValues) → n < length shape.places → FitsNode opening n (held_map p.now) (arrived_map p.now) → FitsCell shape n (Node p) []
+pub node_opens : (shape : Shape) (n : ℕ) (b p : NodeValues) → b ≡ p → n < length shape.places → FitsNode opening n (held_map p.now) (arrived_map p.now) → FitsCell shape n (Node b) []
 unfolding after homes_after homes_from
-node_opens shape n p low fits = record {
-  node = λ w is. (low, subst (λ (v : NodeValues). FitsNode opening n (held_map v.now) (arrived_map v.now)) (node_is p w is) fits);
+node_opens shape n b p put low fits = record {
+  node = λ w is. (low, subst (λ (v : NodeValues). FitsNode opening n (held_map v.now) (arrived_map v.now)) (sym put ∙ node_is b w is) fits);
   pool = λ w is. absurd (cc (is));
   slot = λ w is. absurd (cc (is));
 }
 
-pub pool_opens : (shape : Shape) (n : ℕ) (p : Pool) → n ≡ length shape.places → FitsPool shape opening (λ q. 0) p.numbers p.slots p.pairs → FitsCell shape n (PoolOf (record { now = p; next = None })) []
+pub pool_opens : (shape : Shape) (n : ℕ) (b : PoolPair) (p : Pool) → b ≡ record { now = p; next = None } → n ≡ length shape.places → FitsPool shape opening (λ q. 0) p.numbers p.slots p.pairs → FitsCell shape n (PoolOf b) []
 unfolding after homes_after homes_from
-pool_opens shape n p at fits = record {
+pool_opens shape n b p put at fits = record {
   node = λ w is. absurd (cc (is));
-  pool = λ w is. (at, subst (λ (v : PoolPair). FitsPool shape opening (λ q. 0) v.now.numbers v.now.slots v.now.pairs) (pool_is (record { now = p; next = None }) w is) fits);
+  pool = λ w is. (at, subst (λ (v : PoolPair). FitsPool shape opening (λ q. 0) v.now.numbers v.now.slots v.now.pairs) (sym put ∙ pool_is b w is) fits);
   slot = λ w is. absurd (cc (is));
 }
 
-pub slot_opens : (shape : Shape) (n : ℕ) (s : SlotCell) → length shape.places + 1 ≤ n → FitsSlot shape opening (λ q. 0) (n - (length shape.places + 1)) (register_of s.register) → FitsCell shape n (Slot s) []
+pub slot_opens : (shape : Shape) (n : ℕ) (b s : SlotCell) → b ≡ s → length shape.places + 1 ≤ n → FitsSlot shape opening (λ q. 0) (n - (length shape.places + 1)) (register_of s.register) → FitsCell shape n (Slot b) []
 unfolding after homes_after homes_from
-slot_opens shape n s past fits = record {
+slot_opens shape n b s put past fits = record {
   node = λ w is. absurd (cc (is));
   pool = λ w is. absurd (cc (is));
-  slot = λ w is. (past, subst (λ (v : SlotCell). FitsSlot shape opening (λ q. 0) (n - (length shape.places + 1)) (register_of v.register)) (slot_is s w is) fits);
+  slot = λ w is. (past, subst (λ (v : SlotCell). FitsSlot shape opening (λ q. 0) (n - (length shape.places + 1)) (register_of v.register)) (sym put ∙ slot_is b w is) fits);
 }
 
 -- ---- one more in a list

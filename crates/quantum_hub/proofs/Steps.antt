@@ -123,11 +123,8 @@ module _ (shape : Shape) (cs new : Cells) (p : Prepared) (step : IsPreparedStep 
   step_keeps = record { nodes = kept_node; value = value_at }
 
 -- cells that nobody changed have their values
-pub same_keeps : (shape : Shape) (cs new : Cells) → new ≡ cs → KeepsValues shape cs new
-same_keeps shape cs new is = subst (λ (c : Cells). KeepsValues shape cs c) (sym is) (record { nodes = λ m has. has; value = λ n x at. (x, at, λ h fit. fit) })
-
-pub keeps_along : (shape : Shape) (cs mid new : Cells) → mid ≡ cs → KeepsValues shape mid new → KeepsValues shape cs new
-keeps_along shape cs mid new is keeps = subst (λ (c : Cells). KeepsValues shape c new) is keeps
+pub same_keeps : (shape : Shape) (cs : Cells) → KeepsValues shape cs cs
+same_keeps shape cs = record { nodes = λ m has. has; value = λ n x at. (x, at, λ h fit. fit) }
 
 module _ (shape : Shape) (limit : 1 ≤ shape.limit) (picks : List ℕ) (slots : List (Place (Stamp Cell))) (cs : Cells) (loaded : IsLoaded shape picks slots cs) where
   -- ---- the board's cells fit what all held cells fit

@@ -6,22 +6,21 @@ ghost use Rattle.core_cells.specs.declared.cells.PoolPair.{PoolPair};
 ghost use Rattle.factored_core.specs.Ready.{HasCells};
 ghost use Rattle.held_board.specs.Held.{held_cells};
 
-use core_cells::{held_node, held_pool};
 use factored_core::{Needs, call_needs};
 use held_board::HeldBoard;
 use network_model::Call;
 use virtual_node::{NodeCell, Shape};
 
-/// The value of a call's own node, where the board has all cells that its step may touch.
-pub(crate) fn node_of_call(board: &mut HeldBoard, shape: &Shape, call: &Call) -> Option<NodeCell>
-    ensures same { held_cells board.new ≡ held_cells board.old }
-    ensures has { IfSome result (λ own. (has : HasCells shape.now call.now (held_cells board.old)) × (has.own.now ≡ own)) }
+/// Lends the value of a call's own node to be read, where the board has all cells that its step may touch.
+pub(crate) fn node_of_call<'a>(
+    board: &'a HeldBoard,
+    shape: &Shape,
+    call: &Call,
+) -> Option<&'a NodeCell>
+    ensures { IfSome result (λ own. (has : HasCells shape.now call.now (held_cells board.now)) × (has.own.now ≡ own.now)) }
 {
-    if !board.has_node(call.node) {
-        return None;
-    }
-    let own = held_node(board, call.node);
-    let needs = call_needs(shape, call, &own);
+    let own = board.node_value(call.node)?;
+    let needs = call_needs(shape, call, own);
     if has_free(board, &needs) && has_others(board, &needs) {
         Some(own)
     } else {
@@ -30,18 +29,17 @@ pub(crate) fn node_of_call(board: &mut HeldBoard, shape: &Shape, call: &Call) ->
 }
 
 // Whether the pool is there where it is needed, and its least free slot where that is.
-fn has_free(board: &mut HeldBoard, needs: &Needs) -> bool
-    ensures same { held_cells board.new ≡ held_cells board.old }
-    ensures pool { result ≡ true → needs.now.pool ≡ true → IsSome (held_cells board.old).pool }
-    ensures free { result ≡ true → needs.now.slot ≡ true → (pool : PoolPair) (slot : ℕ) → (held_cells board.old).pool ≡ Some pool → IsLeastListed pool.now.slots slot → IsSome ((held_cells board.old).slot slot) }
+fn has_free(board: &HeldBoard, needs: &Needs) -> bool
+    ensures pool { result ≡ true → needs.now.pool ≡ true → IsSome (held_cells board.now).pool }
+    ensures free { result ≡ true → needs.now.slot ≡ true → (pool : PoolPair) (slot : ℕ) → (held_cells board.now).pool ≡ Some pool → IsLeastListed pool.now.slots slot → IsSome ((held_cells board.now).slot slot) }
 {
-    if !board.has_pool() {
+    let Some(pool) = board.pool_value() else {
         return !needs.pool;
-    }
+    };
     if !needs.slot {
         return true;
     }
-    match held_pool(board).least_free_slot() {
+    match pool.least_free_slot() {
         Some(slot) => board.has_slot(slot),
         None => true,
     }

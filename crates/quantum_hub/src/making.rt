@@ -39,7 +39,7 @@ pub(crate) fn make<D: Dice>(
     let Some(own) = node_of_call(board, shape, call) else {
         return Made::Missing;
     };
-    if awaits_in_vain(&own, call, awaited) {
+    if awaits_in_vain(own, call, awaited) {
         return Made::Empty;
     }
     let prepared = prepare(board, shape, call, dice);

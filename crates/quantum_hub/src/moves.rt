@@ -11,6 +11,7 @@ ghost use Rattle.hub_cells.specs.Cell.{FitsCell, has_next};
 ghost use Rattle.hub_cells.specs.Laid.{cell_at, IsLaid};
 ghost use Rattle.quantum_hub.specs.Moves.{IsPut, IsTaken, lifted, IsLoaded, IsLaidOne};
 
+use cell_box::CellBox;
 use commit_journal::{Framed, Stamped};
 use core_cells::{NodePair, PoolPair, SlotCell};
 use held_board::HeldBoard;
@@ -66,7 +67,7 @@ fn take_cell(board: &mut HeldBoard, shape: &Shape, number: u16) -> Option<Cell>
     slot_of(board.take_slot((number - nodes - 1) as u8))
 }
 
-fn node_of(pair: Option<NodePair>) -> Option<Cell>
+fn node_of(pair: Option<CellBox<NodePair>>) -> Option<Cell>
     ensures { result ≡ option_map Node pair }
 {
     match pair {
@@ -75,7 +76,7 @@ fn node_of(pair: Option<NodePair>) -> Option<Cell>
     }
 }
 
-fn pool_of(pair: Option<PoolPair>) -> Option<Cell>
+fn pool_of(pair: Option<CellBox<PoolPair>>) -> Option<Cell>
     ensures { result ≡ option_map Pool pair }
 {
     match pair {
@@ -84,7 +85,7 @@ fn pool_of(pair: Option<PoolPair>) -> Option<Cell>
     }
 }
 
-fn slot_of(slot: Option<SlotCell>) -> Option<Cell>
+fn slot_of(slot: Option<CellBox<SlotCell>>) -> Option<Cell>
     ensures { result ≡ option_map Slot slot }
 {
     match slot {

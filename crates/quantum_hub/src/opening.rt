@@ -6,6 +6,7 @@ ghost use Rattle.hub_cells.specs.Cell.{FitsCell};
 ghost use Rattle.quantum_hub.specs.Opening.{AreNumbered, AreFreshPasses};
 
 use crate::hints::Hint;
+use cell_box::CellBox;
 use commit_journal::{Framed, Journal, Pass, Stamped};
 use core_cells::{NodePair, PoolCell, PoolPair, SlotCell};
 use history_front::Named;
@@ -20,15 +21,20 @@ fn opening_cell(alloc: Global, shape: &Shape, number: u16) -> Result<Cell, Alloc
 {
     let nodes = u16::from(shape.nodes());
     if number < nodes {
-        return Ok(Cell::Node(NodePair::new()));
+        let node = CellBox::new(alloc, NodePair::new())?;
+        return Ok(Cell::Node(node));
     }
     if number == nodes {
-        return Ok(Cell::Pool(PoolPair {
+        let pair = PoolPair {
             now: PoolCell::new(shape),
             next: None,
-        }));
+        };
+        let pool = CellBox::new(alloc, pair)?;
+        return Ok(Cell::Pool(pool));
     }
-    Ok(Cell::Slot(SlotCell::new(alloc, shape.limit())?))
+    let cell = SlotCell::new(alloc, shape.limit())?;
+    let slot = CellBox::new(alloc, cell)?;
+    Ok(Cell::Slot(slot))
 }
 
 /// All cells before any entry, in order of their numbers.
