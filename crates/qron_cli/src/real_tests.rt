@@ -12,28 +12,31 @@ use cqc_client::{ScriptFault, ScriptWhy};
 use cqc_server::{ScheduleFault, Why};
 use network_model::Place;
 use node_table::{Key, Settings, SettingsFault, plain_settings};
-use qron_link::{Pipe, Sink, Source, TcpDoor, Writer};
+use qron_link::{Link, Pipe, Sink, Source, TcpDoor, Writer};
 use std::alloc::Global;
+use std::cell::Cell;
 use std::io::{self, Cursor, ErrorKind, Write};
+use std::rc::Rc;
 use std::test::Fail;
 use virtual_node::Shape;
 
 /// The address of this machine.
 pub const LOCALHOST: u32 = 0x7f00_0001;
 
-// A writer that takes so many bytes, and then fails.
+// A writer that takes as many bytes as there is room, and then fails.
 #[derive(Drop)]
 struct Bounded {
-    room: usize,
+    room: Rc<Cell<usize>>,
 }
 
 impl Write for Bounded {
     fn write(&mut self, piece: &[u8]) -> io::Result<usize> {
-        if self.room == 0 {
+        let room = self.room.get();
+        if room == 0 {
             return Err(ErrorKind::StorageFull.into());
         }
-        let size = piece.len().min(self.room);
-        self.room -= size;
+        let size = piece.len().min(room);
+        self.room.set(room - size);
         Ok(size)
     }
 
@@ -56,14 +59,20 @@ impl Voice for Mute {
     fn say(&self, _line: &str) {}
 }
 
+type Gathering = Pipe<Cursor<Vec<u8>>, Bounded>;
+
 // A pipe that has gathered eight bytes, since input was read ahead.
-fn gathering(alloc: Global, room: usize) -> Result<Pipe<Cursor<Vec<u8>>, Bounded>, Fail> {
+fn gathering_into(alloc: Global, room: Rc<Cell<usize>>) -> Result<Gathering, Fail> {
     let input = vec![in alloc; 0; 16]?;
     let mut pipe = Pipe::new(alloc, Cursor::new(input), Bounded { room })?;
     let mut head = [0; 8];
     pipe.read(&mut head);
     pipe.write(&head);
     Ok(pipe)
+}
+
+fn gathering(alloc: Global, room: usize) -> Result<Gathering, Fail> {
+    gathering_into(alloc, Rc::new(alloc, Cell::new(room))?)
 }
 
 /// Standard error that is no terminal.
@@ -93,6 +102,23 @@ fn failure_of_the_last_flush_is_a_fault(rt: HostRuntime) -> Result<(), Fail> {
             line.as_bytes(),
             "{room} {line}"
         );
+    }
+    Ok(())
+}
+
+#[test]
+fn what_was_gathered_is_sent_before_a_wait_and_at_the_end(rt: HostRuntime) -> Result<(), Fail> {
+    let alloc = rt.alloc();
+    for at_the_end in [false, true] {
+        let room = Rc::new(alloc, Cell::new(9))?;
+        let mut pipe = gathering_into(alloc, room.clone()?)?;
+        assert_eq!(rt; room.get(), 9);
+        if at_the_end {
+            pipe.close();
+        } else {
+            pipe.deliver();
+        }
+        assert_eq!(rt; room.get(), 1, "{at_the_end}");
     }
     Ok(())
 }
