@@ -118,10 +118,6 @@ module _ {T : Type 0} where
       → (IsTrue (nat_lt place (length ss)) → IsSome (held ss n)) × (IsSome (held ss n) → IsTrue (nat_lt place (length ss)))
   has_is ss n place within before there full = has_cases (nat_lt place (length ss)) ss n place refl within before there full
 
-  pub length-numbers : (ss : List (Slot T)) → length (numbers ss) ≡ length ss
-  length-numbers [] = refl
-  length-numbers (x ∷ ss) = ap suc (length-numbers ss)
-
   pub numbers-snoc : (ss : List (Slot T)) (u : Slot T) → numbers (ss ++ u ∷ []) ≡ numbers ss ++ slot_number u ∷ []
   numbers-snoc [] u = refl
   numbers-snoc (x ∷ ss) u = ap (λ l. slot_number x ∷ l) (numbers-snoc ss u)
@@ -132,14 +128,6 @@ module _ {T : Type 0} where
   place_with_at (x ∷ ss) zero s w at = let same : x ≡ s = cc (at) in ap (λ (u : Slot T). slot_with u w ∷ ss) same
   place_with_at (x ∷ ss) (suc k) s w at = ap (λ l. x ∷ l) (place_with_at ss k s w at)
 
-pub rises_length : (a : ℕ) (ns : List ℕ) (b : ℕ) → RisesTo a ns b → a + length ns ≤ b
-rises_length a [] b r = omega arith
-rises_length a (n ∷ ns) b r = let rest = rises_length (n + 1) ns b r.1 in omega (arith, r.0)
-
 pub rises_more : (a : ℕ) (ns : List ℕ) (b n : ℕ) → RisesTo a ns b → All (λ m. m < n) ns → a ≤ n → n < b → RisesTo a (ns ++ n ∷ []) b
 rises_more a [] b n r all le lt = (le, omega arith)
 rises_more a (m ∷ ns) b n r all le lt = (r.0, rises_more (m + 1) ns b n r.1 (λ k d h. all (suc k) d (omega arith)) (let first = all zero zero (omega arith) in omega arith) lt)
-
-pub rises_below : (a : ℕ) (ns : List ℕ) (b n : ℕ) → RisesTo a ns b → All (λ m. m < n) ns → a ≤ n → RisesTo a ns n
-rises_below a [] b n r all le = le
-rises_below a (m ∷ ns) b n r all le = (r.0, rises_below (m + 1) ns b n r.1 (λ k d h. all (suc k) d (omega arith)) (let first = all zero zero (omega arith) in omega arith))

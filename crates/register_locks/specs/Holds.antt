@@ -6,9 +6,9 @@ use Rattle.register_locks.specs.Slots.{Holding, held_with, place_with}
 use Rattle.register_locks.specs.contracts.hold.Hold.{the_row}
 
 -- the value of a number
-abbrev pub LendsHeld : (R : RattleType) → MutBor (Holding R.Denot) → ℕ → MutBor R.Denot → Fml
-LendsHeld R s n r = Lends (the_row (record { mir = named 1; lft = [] }) R) R s r (λ w. record s.now { slots = held_with s.now.slots n w })
+abbrev pub LendsHeld : (R N : RattleType) → MutBor (Holding R.Denot) → ℕ → MutBor R.Denot → Fml
+LendsHeld R N s n r = Lends (the_row (record { mir = named 1; lft = [] }) R N) R s r (λ w. record s.now { slots = held_with s.now.slots n w })
 
 -- the value at a place
-abbrev pub LendsPlace : (R : RattleType) → MutBor (Holding R.Denot) → ℕ → MutBor R.Denot → Fml
-LendsPlace R s k r = Lends (the_row (record { mir = named 1; lft = [] }) R) R s r (λ w. record s.now { slots = place_with s.now.slots k w })
+abbrev pub LendsPlace : (R N : RattleType) → MutBor (Holding R.Denot) → ℕ → MutBor R.Denot → Fml
+LendsPlace R N s k r = Lends (the_row (record { mir = named 1; lft = [] }) R N) R s r (λ w. record s.now { slots = place_with s.now.slots k w })

@@ -11,15 +11,16 @@ use std::marker::Model;
 use std::mem;
 use std::sync::{MutexGuard, Wait};
 
-/// Values whose locks are held, in rising order of their numbers. Dropping a hold gives all locks back. Contracts see how
-/// many locks there are, and what is held.
-pub struct Hold<'a, T> {
-    slots: ArrayVec<Slot<T>, 137>,
-    guards: ArrayVec<Option<MutexGuard<'a, Slot<T>>>, 137>,
+/// Values whose locks are held, in rising order of their numbers, and no more than ROOM. Dropping a hold gives all locks
+/// back. Contracts see how many locks there are, and what is held. What is held lies in the hold itself, so a hold with
+/// room for few is cheap to begin and to move.
+pub struct Hold<'a, T, const ROOM: usize> {
+    slots: ArrayVec<Slot<T>, ROOM>,
+    guards: ArrayVec<Option<MutexGuard<'a, Slot<T>>>, ROOM>,
     locks: &'a Locks<T>,
 }
 
-impl<'a, T> Model for Hold<'a, T> {
+impl<'a, T, const ROOM: usize> Model for Hold<'a, T, ROOM> {
     ghost use Rattle.std.specs.Prelude.{◌≡◌, length, All, IsSome};
     ghost use Rattle.register_locks.specs.Slots.{Holding, RisesTo, numbers, slot_value};
 
@@ -30,8 +31,8 @@ impl<'a, T> Model for Hold<'a, T> {
     ghost invariant = { λ h. RisesTo 0 (numbers h.slots.items) h.locks.now × All (λ s. IsSome (slot_value s)) h.slots.items × All (λ g. IsSome g) h.guards.items × (length h.guards.items ≡ length h.slots.items) };
 }
 
-impl<'a, T> Hold<'a, T> {
-    pub(crate) fn over(locks: &'a Locks<T>) -> Hold<'a, T>
+impl<'a, T, const ROOM: usize> Hold<'a, T, ROOM> {
+    pub(crate) fn over(locks: &'a Locks<T>) -> Hold<'a, T, ROOM>
         ensures { (result.count ≡ locks.now) × (result.slots ≡ []) }
     {
         Hold {
@@ -71,6 +72,13 @@ impl<'a, T> Hold<'a, T> {
         self.slots.len()
     }
 
+    /// Whether one more can be held.
+    pub fn has_room(&self) -> bool
+        ensures { IsTrue result ↔ (length self.now.slots < ROOM) }
+    {
+        self.slots.len() < ROOM
+    }
+
     /// Lends the value of this number to be read, where it is held.
     pub fn peek(&self, number: u16) -> Option<&T>
         ensures { option_map (λ value. value.now) result ≡ held self.now.slots number }
@@ -85,7 +93,7 @@ impl<'a, T> Hold<'a, T> {
     /// Lends the value that was taken at this place, from 0.
     pub fn at(&mut self, place: usize) -> &mut T
         requires { place < length self.old.slots }
-        ensures* writes_back { sem 𝓛 (LendsPlace T.row self.entry place result) }
+        ensures* writes_back { sem 𝓛 (LendsPlace T.row ROOM.row self.entry place result) }
         ensures value { IfSome (slice_get self.old.slots place) (λ s. slot_value s ≡ Some result.now) }
     {
         match self.slots.get_mut(place) {
@@ -97,7 +105,7 @@ impl<'a, T> Hold<'a, T> {
     /// Lends the value of this number.
     pub fn get(&mut self, number: u16) -> &mut T
         requires { IsSome (held self.old.slots number) }
-        ensures* writes_back { sem 𝓛 (LendsHeld T.row self.entry number result) }
+        ensures* writes_back { sem 𝓛 (LendsHeld T.row ROOM.row self.entry number result) }
         ensures value { held self.old.slots number ≡ Some result.now }
     {
         let place = place_of(self.slots.as_slice(), number);
@@ -105,12 +113,13 @@ impl<'a, T> Hold<'a, T> {
     }
 }
 
-impl<'a, T: Numbered> Hold<'a, T> {
-    /// Takes the lock of this number, which is greater than all that are held. It may wait. A value with another number
-    /// is given back, and its lock is taken again.
+impl<'a, T: Numbered, const ROOM: usize> Hold<'a, T, ROOM> {
+    /// Takes the lock of this number, which is greater than all that are held, where one more can be held. It may wait.
+    /// A value with another number is given back, and its lock is taken again.
     pub fn take(&mut self, rt: &impl Wait, number: u16)
         requires there { number < self.old.count }
         requires rising { All (λ n. n < number) (numbers self.old.slots) }
+        requires room { length self.old.slots < ROOM }
         ensures count { self.new.count ≡ self.old.count }
         ensures taken { (s : Slot T) × (v : T) × (self.new.slots ≡ self.old.slots ++ s ∷ []) × (slot_number s ≡ number) × (slot_value s ≡ Some v) × (T.number_of v ≡ number) }
     {
@@ -122,18 +131,22 @@ impl<'a, T: Numbered> Hold<'a, T> {
 }
 
 /// Each value goes back under its lock, and the locks are given back.
-impl<'a, T: Drop> Drop for Hold<'a, T> {
+impl<'a, T: Drop, const ROOM: usize> Drop for Hold<'a, T, ROOM> {
     fn drop(self) {
         let Hold {
-            mut slots,
-            mut guards,
+            slots,
+            guards,
             locks: _,
         } = self;
-        while let Some(Some(mut guard)) = guards.pop() {
-            if let Some(slot) = slots.pop() {
-                *guard = slot;
-            }
-        }
+        guards.into_iter().zip(slots).for_each(give_back);
+    }
+}
+
+// A slot goes back under its lock, and the lock is given back.
+fn give_back<'a, T: Drop>(held: (Option<MutexGuard<'a, Slot<T>>>, Slot<T>)) {
+    let (guard, slot) = held;
+    if let Some(mut guard) = guard {
+        *guard = slot;
     }
 }
 
@@ -145,7 +158,6 @@ fn acquire<'a, T: Numbered>(
     number: u16,
 ) -> (Slot<T>, MutexGuard<'a, Slot<T>>)
     requires { number < locks.now }
-    ensures most { locks.now ≤ 137 }
     ensures there { (slot_number result.0 ≡ number) × ((v : T) × (slot_value result.0 ≡ Some v) × (T.number_of v ≡ number)) }
 {
     let lock = &locks.cells[number as usize];

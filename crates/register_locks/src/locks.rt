@@ -58,8 +58,9 @@ impl<T: Numbered> Locks<T> {
         Ok(Locks { cells: locks })
     }
 
-    /// A hold of nothing.
-    pub fn begin(&self) -> Hold<'_, T>
+    /// A hold of nothing, with room for so many. A caller that knows that it needs few asks for no more room than that,
+    /// and one that takes all locks asks for 137, since there are no more.
+    pub fn begin<const ROOM: usize>(&self) -> Hold<'_, T, ROOM>
         ensures { (result.count ≡ self.now) × (result.slots ≡ []) }
     {
         Hold::over(self)

@@ -43,13 +43,13 @@ fn two_cells(alloc: Global) -> Result<Locks<Cell>, Fail>
 fn holds_give_back(rt: HostRuntime) -> Result<(), Fail> {
     let locks = two_cells(rt.alloc())?;
     {
-        let mut hold = locks.begin();
+        let mut hold = locks.begin::<2>();
         hold.take(&rt, 0);
         hold.take(&rt, 1);
         hold.get(1).value = 9;
         assert!(rt; hold.has(0) && hold.has(1) && !hold.has(2));
     }
-    let mut hold = locks.begin();
+    let mut hold = locks.begin::<2>();
     hold.take(&rt, 1);
     assert_eq!(rt; hold.get(1).value, 9);
     Ok(())
@@ -58,8 +58,10 @@ fn holds_give_back(rt: HostRuntime) -> Result<(), Fail> {
 #[test]
 fn peeks_at_what_is_held(rt: HostRuntime) -> Result<(), Fail> {
     let locks = two_cells(rt.alloc())?;
-    let mut hold = locks.begin();
+    let mut hold = locks.begin::<1>();
+    assert!(rt; hold.has_room());
     hold.take(&rt, 1);
+    assert!(rt; !hold.has_room());
     assert!(rt; hold.peek(0).is_none());
     let held = hold.peek(1).ok_or("the cell is held")?;
     assert_eq!(rt; held.value, 6);
@@ -71,7 +73,7 @@ fn peeks_at_what_is_held(rt: HostRuntime) -> Result<(), Fail> {
 fn moves(rt: &impl Wait, locks: &Locks<Cell>)
     requires { locks.now ≡ 2 }
 {
-    let mut hold = locks.begin();
+    let mut hold = locks.begin::<2>();
     hold.take(rt, 0);
     hold.take(rt, 1);
     let first = hold.get(0);
@@ -89,7 +91,7 @@ fn moves(rt: &impl Wait, locks: &Locks<Cell>)
 fn two_threads_take_in_order(rt: HostRuntime) -> Result<(), Fail> {
     let locks = two_cells(rt.alloc())?;
     let (_, _) = join(&rt, || moves(&rt, &locks), || moves(&rt, &locks));
-    let mut hold = locks.begin();
+    let mut hold = locks.begin::<2>();
     hold.take(&rt, 0);
     hold.take(&rt, 1);
     assert_eq!(rt; hold.get(0).value, 3);

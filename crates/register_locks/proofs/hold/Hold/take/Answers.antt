@@ -1,25 +1,21 @@
-use Rattle.std.proofs.Common.{◌≡◌, ◌<◌, ◌≤◌, ◌+◌, ◌∙◌, ◌++◌, ◌∷◌, [], ℕ, refl, sym, ap, subst, List, length, arith, length-append}
+use Rattle.std.proofs.Common.{◌≡◌, ◌<◌, ◌+◌, ◌∙◌, ◌++◌, ◌∷◌, [], ℕ, refl, sym, ap, subst, List, length, arith, length-append}
 use Rattle.std.specs.Prelude.{is_some, IsSome, All}
 use Rattle.register_locks.specs.Slots.{Holding, numbers, slot_value, RisesTo}
 use Rattle.register_locks.specs.declared.slot.Slot.{Slot}
-use Rattle.register_locks.proofs.HeldLemmas.{Full, all_more, rises_more, rises_below, rises_length, length-numbers, numbers-snoc}
+use Rattle.register_locks.proofs.HeldLemmas.{Full, all_more, rises_more, numbers-snoc}
 use Rattle.register_locks.proofs.hold.Hold.take.Goals as goal
 
-room : {T : Type 0} (ss : List (Slot T)) (h : Holding T) (count n : ℕ) → RisesTo 0 (numbers ss) count → ◌≡◌ {A = Holding T} (record { count = count; slots = ss }) h → All (λ m. m < n) (numbers h.slots) → n < h.count
-    → count ≤ 137 → length ss < 137
-room ss h count n rises is below lt most =
-    let below' : All (λ m. m < n) (numbers ss) = subst (λ (k : Holding _). All (λ m. m < n) (numbers k.slots)) (sym is) below in
-    let upto = rises_length 0 (numbers ss) n (rises_below 0 (numbers ss) count n rises below' (omega arith)) in
-    let same = ap (λ (k : Holding _). k.count) is in
-    omega (arith, upto, length-numbers ss, same)
+-- the slots have as many places as the hold shows
+shown : {T : Type 0} (ss : List (Slot T)) (h : Holding T) (count room : ℕ) → ◌≡◌ {A = Holding T} (record { count = count; slots = ss }) h → length h.slots < room → length ss < room
+shown ss h count room is lt = subst (λ (k : Holding _). length k.slots < room) (sym is) lt
 
 pub push-requires : goal.push-requires
 push-requires g c =
-    (omega arith, room c.self.inside.slots.items c.args.self.now c.self.inside.locks.now c.args.number c.self.invariant.0 c.self.view_is c.requires.rising c.requires.there c.acquire-slot.ensures.most)
+    (omega arith, shown c.self.inside.slots.items c.args.self.now c.self.inside.locks.now _ c.self.view_is c.requires.room)
 
 pub push-requires-2 : goal.push-requires-2
 push-requires-2 g c =
-    let r = room c.self.inside.slots.items c.args.self.now c.self.inside.locks.now c.args.number c.self.invariant.0 c.self.view_is c.requires.rising c.requires.there c.acquire-slot.ensures.most in
+    let r = shown c.self.inside.slots.items c.args.self.now c.self.inside.locks.now _ c.self.view_is c.requires.room in
     (omega arith, omega (arith, c.self.invariant.3, r))
 
 pub invariant_of-self : goal.invariant_of-self
