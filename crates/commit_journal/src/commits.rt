@@ -22,9 +22,9 @@ use register_locks::Hold;
 /// Compares the held cells' stamps and the pass's number of entries with the journal's numbers, and answers the number
 /// of entries. Then every held cell fits the whole journal and has no next value any more, and the pass has seen all of
 /// it. Where a number differs nothing has changed.
-pub fn glance<C: Cells, N: Named + Framed>(
+pub fn glance<C: Cells, N: Named + Framed, const ROOM: usize>(
     journal: &mut Journal<N>,
-    hold: &mut Hold<'_, Stamped<C, N>>,
+    hold: &mut Hold<'_, Stamped<C, N>, ROOM>,
     pass: &mut Pass<N>,
 ) -> Result<u32, Stale>
     ensures current { IsOk result ↔ AreCurrent N.shape hold.old.slots pass.old journal.old }
@@ -49,9 +49,9 @@ pub fn glance<C: Cells, N: Named + Framed>(
 /// Ends a step whose cells are held, and answers the entry's place. The journal has its entry more, the next values of
 /// the cells that it touches are their values, and the pass has seen all of it. Where a number differs nothing has
 /// changed; where the journal is full no entry and no cell has, so that the caller undoes the step.
-pub fn commit<C: Cells, N: Named + Framed>(
+pub fn commit<C: Cells, N: Named + Framed, const ROOM: usize>(
     journal: &mut Journal<N>,
-    hold: &mut Hold<'_, Stamped<C, N>>,
+    hold: &mut Hold<'_, Stamped<C, N>, ROOM>,
     pass: &mut Pass<N>,
     entry: Entry,
 ) -> Result<u32, CommitFault>
@@ -84,7 +84,9 @@ pub fn commit<C: Cells, N: Named + Framed>(
 }
 
 /// Undoes a step that wasn't committed: the next values of all held cells are gone, and their values stay.
-pub fn forget_all<C: Cells, N: Named + Framed>(hold: &mut Hold<'_, Stamped<C, N>>)
+pub fn forget_all<C: Cells, N: Named + Framed, const ROOM: usize>(
+    hold: &mut Hold<'_, Stamped<C, N>, ROOM>,
+)
     ensures forgotten { hold.new ≡ record hold.old { slots = map_values (forgotten_stamp C.forgotten) hold.old.slots } }
     ensures idle { AreIdle C.has_next hold.new.slots }
     ensures fits { (h : List Entry) → AllFit C.fits N.shape hold.old.slots h → AllFit C.fits N.shape hold.new.slots h }

@@ -15,9 +15,9 @@ use history_front::Named;
 use register_locks::Hold;
 
 // Compares the held cells' stamps and the pass's number of entries with the journal's numbers.
-pub(crate) fn compare<C: Cells, N: Named + Framed>(
+pub(crate) fn compare<C: Cells, N: Named + Framed, const ROOM: usize>(
     journal: &mut Journal<N>,
-    hold: &mut Hold<'_, Stamped<C, N>>,
+    hold: &mut Hold<'_, Stamped<C, N>, ROOM>,
     pass: &mut Pass<N>,
 ) -> Result<(), Stale>
     ensures journal { journal.new ≡ journal.old }
@@ -34,9 +34,9 @@ pub(crate) fn compare<C: Cells, N: Named + Framed>(
 }
 
 // Compares the held cells' stamps with the journal's numbers.
-fn compare_cells<C: Cells, N: Named + Framed>(
+fn compare_cells<C: Cells, N: Named + Framed, const ROOM: usize>(
     journal: &mut Journal<N>,
-    hold: &mut Hold<'_, Stamped<C, N>>,
+    hold: &mut Hold<'_, Stamped<C, N>, ROOM>,
 ) -> Result<(), Stale>
     ensures journal { journal.new ≡ journal.old }
     ensures hold { hold.new ≡ hold.old }

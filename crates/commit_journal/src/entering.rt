@@ -33,7 +33,11 @@ impl<N: Named + Framed> Journal<N> {
     }
 
     /// Adds an entry, whose cells are held. Their next values become their values.
-    pub(crate) fn enter<C: Cells>(&mut self, hold: &mut Hold<'_, Stamped<C, N>>, entry: Entry)
+    pub(crate) fn enter<C: Cells, const ROOM: usize>(
+        &mut self,
+        hold: &mut Hold<'_, Stamped<C, N>, ROOM>,
+        entry: Entry,
+    )
         requires room { length self.old < N.capacity }
         requires seat { entry.call.seat < N.seats }
         requires entered { IsEntered C.fits C.has_next C.settled N.shape N.cells hold.old.slots self.old entry }
@@ -51,11 +55,11 @@ impl<N: Named + Framed> Journal<N> {
 }
 
 // The next values of held cells become their values, which fit the whole history. Their kept numbers are its length.
-fn settle_all<C: Cells, N: Named + Framed>(
+fn settle_all<C: Cells, N: Named + Framed, const ROOM: usize>(
     history: &History<Entry, N>,
     pen: &mut Pen<Entry, N>,
     kept: &mut Vec<u32>,
-    hold: &mut Hold<'_, Stamped<C, N>>,
+    hold: &mut Hold<'_, Stamped<C, N>, ROOM>,
     count: u32,
 )
     requires count { count ≡ length pen.old }

@@ -90,7 +90,7 @@ fn refused(seat: u16) -> Entry
 }
 
 // Prepares the node's cell.
-fn prepare<N: Named + Framed>(hold: &mut Hold<'_, Stamped<Flag, N>>)
+fn prepare<N: Named + Framed>(hold: &mut Hold<'_, Stamped<Flag, N>, 1>)
     requires { IsSome (held hold.old.slots 0) }
     ensures { (w : Stamp Flag) × (held hold.old.slots 0 ≡ Some w) × (hold.new.slots ≡ held_with hold.old.slots 0 (record w { cell = Some (record { is_ready = true }) })) }
 {
@@ -110,7 +110,7 @@ fn commit_one<N: Named + Framed>(
     requires network { (N.shape ≡ record { places = record { address = 1; port = 1 } ∷ []; room = 1; limit = 1 }) × (N.cells ≡ 1) }
     ensures { pass.new.seat ≡ pass.old.seat }
 {
-    let mut hold = locks.begin();
+    let mut hold = locks.begin::<1>();
     hold.take(rt, 0);
     prepare(&mut hold);
     let entry = refused(pass.seat());
@@ -128,7 +128,7 @@ fn look<N: Named + Framed>(
     requires { locks.now ≡ 1 }
     ensures { pass.new.seat ≡ pass.old.seat }
 {
-    let mut hold = locks.begin();
+    let mut hold = locks.begin::<1>();
     hold.take(rt, 0);
     let mut journal = journal.lock(rt);
     glance(&mut *journal, &mut hold, pass)
@@ -138,7 +138,7 @@ fn look<N: Named + Framed>(
 fn is_prepared<N: Named + Framed>(rt: &impl Wait, locks: &Locks<Stamped<Flag, N>>) -> bool
     requires { locks.now ≡ 1 }
 {
-    let mut hold = locks.begin();
+    let mut hold = locks.begin::<1>();
     hold.take(rt, 0);
     match hold.peek(0) {
         Some(stamped) => stamped.is_ready(),

@@ -1,4 +1,4 @@
-use Rattle.std.proofs.Common.{◌<◌, ◌+◌, ◌++◌, ◌∷◌, [], length, ℕ, List, ap, sym, subst, ◌∙◌, arith}
+use Rattle.std.proofs.Common.{◌≡◌, ◌<◌, ◌+◌, ◌++◌, ◌∷◌, [], length, ℕ, List, ap, sym, subst, ◌∙◌, arith}
 use Rattle.network_model.specs.declared.Entry.{Entry}
 use Rattle.register_locks.specs.Slots.{Holding}
 use Rattle.commit_journal.specs.Keeping.{own_count}
@@ -6,6 +6,10 @@ use Rattle.commit_journal.specs.Views.{Stamp, Worker}
 use Rattle.commit_journal.specs.Holding.{IsEntered}
 use Rattle.commit_journal.proofs.Keeps.{seen_all, added_one, own_more, own_few}
 use Rattle.commit_journal.proofs.Ends.{committed_ends, told_as, noted_as}
+use Rattle.std.proofs.lemmas.Bool.{false≢true}
+use Rattle.commit_journal.specs.declared.fault.Stale.{Stale}
+use Rattle.commit_journal.specs.Commits.{IsFirstStale}
+use Rattle.commit_journal.proofs.Staleness.{current_not_stale}
 use Rattle.commit_journal.proofs.Journals.{room_left}
 use Rattle.commit_journal.proofs.commits.commit.Goals as goal
 
@@ -38,6 +42,19 @@ note-requires-clause-few g c =
     let same = ap (λ (w : Worker). w.made) c.compare.ensures.pass in
     let room = room_left c.is_full.result _ _ c.is_full.ensures c.if-is_full.false (omega (arith, ap (length {A = Entry}) c.compare.ensures.journal, c.len-place.ensures.len, c.len-place.ensures.most)) in
     omega (arith, same, c.in_default.ensures.current.counted, own_few old.seat c.args.journal.now, ap (length {A = Entry}) c.compare.ensures.journal, room, c.len-place.ensures.few)
+
+pub returns-in-Err-clause-ok : goal.returns-in-Err-clause-ok
+returns-in-Err-clause-ok g c =
+    (λ ok. absurd (false≢true ok), λ now. absurd (current_not_stale g.N.Framed.shape g.N.Framed.cells c.args.hold.now.slots c.args.pass.now c.args.journal.now c.in-Err.stale c.in-Err.ensures.stale now.0))
+
+pub returns-in-Err-clause-full : goal.returns-in-Err-clause-full
+returns-in-Err-clause-full g c f =
+    (λ is. absurd (cc (is)), λ now. absurd (current_not_stale g.N.Framed.shape g.N.Framed.cells c.args.hold.now.slots c.args.pass.now c.args.journal.now c.in-Err.stale c.in-Err.ensures.stale now.0))
+
+pub returns-in-Err-clause-stale : goal.returns-in-Err-clause-stale
+returns-in-Err-clause-stale g c s is =
+    let same : c.in-Err.stale ≡ s = cc (is) in
+    subst (λ (t : Stale). IsFirstStale g.N.Framed.shape g.N.Framed.cells c.args.hold.now.slots c.args.pass.now c.args.journal.now t) same c.in-Err.ensures.stale
 
 pub returns-then-is_full-clause-seen : goal.returns-then-is_full-clause-seen
 returns-then-is_full-clause-seen g c f is =
