@@ -257,7 +257,7 @@ fn state_of<N: Named + Framed, R: Wait>(rt: &R, hub: &Hub<N>, number: u16) -> Op
     if number >= hub.locks.count() {
         return None;
     }
-    let mut hold = hub.locks.begin();
+    let mut hold = hub.locks.begin::<1>();
     hold.take(rt, number);
     let cell = hold.peek(number)?.cell()?;
     let (held, least) = match cell {

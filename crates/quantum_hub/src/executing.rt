@@ -8,8 +8,6 @@ ghost use Rattle.quantum_hub.specs.Calls.{MayCall, IsAnswer};
 ghost use Rattle.quantum_hub.specs.Waiting.{received_line, WereEmpty, HasTimedOut};
 ghost use Rattle.quantum_hub.specs.Tries.{MayAwait, FitsTurn};
 
-use crate::gathering::gather;
-use crate::hints::note;
 use crate::hub::{Hub, wait_for_ever};
 use crate::tries::{Tried, Turn};
 use commit_journal::{Framed, Pass};
@@ -104,18 +102,11 @@ impl<N: Named + Framed> Hub<N> {
     {
         let mut missed = 0u8;
         for _ in rt.forever() {
-            let mut hold = self.locks.begin();
             let all = missed == HINTED_TRIES;
-            let picks = gather(rt, &mut hold, &self.hints, &self.shape, call, all);
-            let tried = self.try_once(rt, &mut hold, &picks, pass, call, awaited, dice);
-            note(&hold, &picks, &self.hints, self.shape.nodes());
-            match tried {
+            match self.try_with(rt, pass, call, awaited, dice, all) {
                 Tried::Ended(turn) => return turn,
                 Tried::Missed => missed = (missed + 1).min(HINTED_TRIES),
-                Tried::Stuck => {
-                    drop(hold);
-                    wait_for_ever(rt)
-                }
+                Tried::Stuck => wait_for_ever(rt),
             }
         }
         unreachable!()

@@ -14,25 +14,27 @@ use std::sync::Wait;
 use std::sync::atomic::AtomicIn;
 use virtual_node::{NodeCell, Shape};
 
-// The least number whose lock may still be taken, and the numbers that the call is tried with: at most two nodes, the
-// pool and three slots.
+/// How many cells a call needs at most: two nodes, the pool and three slots.
+pub(crate) const FEW: usize = 6;
+
+// The least number whose lock may still be taken, and the numbers that the call is tried with.
 #[derive(Drop)]
 struct Taken {
     next: u16,
-    picks: ArrayVec<u16, 6>,
+    picks: ArrayVec<u16, FEW>,
 }
 
 /// Takes the locks of the cells that a call may touch: its nodes, then the pool, then the slots of its qubits and the
 /// least free one, each where it needs them. The slots are those that the hints name, or all slots are taken. The
 /// answer is what the call is tried with; no claim rests on its being what the call needs.
-pub(crate) fn gather<N: Named + Framed>(
+pub(crate) fn gather<N: Named + Framed, const ROOM: usize>(
     rt: &impl Wait,
-    hold: &mut Hold<'_, Stamped<Cell, N>>,
+    hold: &mut Hold<'_, Stamped<Cell, N>, ROOM>,
     hints: &[AtomicIn<Hint>],
     shape: &Shape,
     call: &Call,
     all: bool,
-) -> ArrayVec<u16, 6>
+) -> ArrayVec<u16, FEW>
     requires { hold.old.slots ≡ [] }
     ensures { AreApart hold.new.slots }
 {
@@ -65,9 +67,9 @@ pub(crate) fn gather<N: Named + Framed>(
 }
 
 // Takes the locks of a call's nodes.
-fn take_nodes<N: Named + Framed>(
+fn take_nodes<N: Named + Framed, const ROOM: usize>(
     rt: &impl Wait,
-    hold: &mut Hold<'_, Stamped<Cell, N>>,
+    hold: &mut Hold<'_, Stamped<Cell, N>, ROOM>,
     taken: &mut Taken,
     shape: &Shape,
     call: &Call,
@@ -88,9 +90,9 @@ fn take_nodes<N: Named + Framed>(
 }
 
 // Takes the locks of three slots at most, in order.
-fn pick_slots<N: Named + Framed>(
+fn pick_slots<N: Named + Framed, const ROOM: usize>(
     rt: &impl Wait,
-    hold: &mut Hold<'_, Stamped<Cell, N>>,
+    hold: &mut Hold<'_, Stamped<Cell, N>, ROOM>,
     taken: &mut Taken,
     first: u16,
     mut slots: [Option<u16>; 3],
@@ -108,9 +110,9 @@ fn pick_slots<N: Named + Framed>(
 }
 
 // Takes the locks of all slots, and picks those of the call's qubits and the free one.
-fn take_slots<N: Named + Framed>(
+fn take_slots<N: Named + Framed, const ROOM: usize>(
     rt: &impl Wait,
-    hold: &mut Hold<'_, Stamped<Cell, N>>,
+    hold: &mut Hold<'_, Stamped<Cell, N>, ROOM>,
     taken: &mut Taken,
     first: u16,
     needs: &Needs,
@@ -128,23 +130,23 @@ fn take_slots<N: Named + Framed>(
     }
 }
 
-// Takes a lock, if there is one of this number and it comes behind all that are held.
-fn take<N: Named + Framed>(
+// Takes a lock, if there is one of this number, it comes behind all that are held, and one more can be held.
+fn take<N: Named + Framed, const ROOM: usize>(
     rt: &impl Wait,
-    hold: &mut Hold<'_, Stamped<Cell, N>>,
+    hold: &mut Hold<'_, Stamped<Cell, N>, ROOM>,
     taken: &mut Taken,
     number: u16,
 )
     requires { AreTaken hold.old.slots taken.old.next }
     ensures { AreTaken hold.new.slots taken.new.next }
 {
-    if number >= taken.next && number < hold.count() {
+    if number >= taken.next && number < hold.count() && hold.has_room() {
         hold.take(rt, number);
         taken.next = number + 1;
     }
 }
 
-// One pick more, where there is room: a call needs no more than six cells.
+// One pick more, where there is room.
 fn add(taken: &mut Taken, number: u16)
     ensures { taken.new.next ≡ taken.old.next }
 {
@@ -152,7 +154,7 @@ fn add(taken: &mut Taken, number: u16)
 }
 
 // Held cells of one number are one cell.
-fn apart<N: Named + Framed>(hold: &Hold<'_, Stamped<Cell, N>>, next: u16)
+fn apart<N: Named + Framed, const ROOM: usize>(hold: &Hold<'_, Stamped<Cell, N>, ROOM>, next: u16)
     requires { AreTaken hold.now.slots next }
     ensures { AreApart hold.now.slots }
 {
@@ -160,8 +162,8 @@ fn apart<N: Named + Framed>(hold: &Hold<'_, Stamped<Cell, N>>, next: u16)
 }
 
 // What a call needs, by its own node's cell, which is held.
-fn needs_of<N: Named + Framed>(
-    hold: &Hold<'_, Stamped<Cell, N>>,
+fn needs_of<N: Named + Framed, const ROOM: usize>(
+    hold: &Hold<'_, Stamped<Cell, N>, ROOM>,
     shape: &Shape,
     call: &Call,
 ) -> Option<Needs> {
@@ -172,7 +174,10 @@ fn needs_of<N: Named + Framed>(
 }
 
 // The least free slot, by the pool's cell, if that is held.
-fn least_free<N: Named + Framed>(hold: &Hold<'_, Stamped<Cell, N>>, pool: u16) -> Option<u16> {
+fn least_free<N: Named + Framed, const ROOM: usize>(
+    hold: &Hold<'_, Stamped<Cell, N>, ROOM>,
+    pool: u16,
+) -> Option<u16> {
     match hold.peek(pool)?.cell()? {
         Cell::Pool(pair) => pair.now.least_free_slot().map(u16::from),
         _ => None,
@@ -180,8 +185,8 @@ fn least_free<N: Named + Framed>(hold: &Hold<'_, Stamped<Cell, N>>, pool: u16) -
 }
 
 // Whether a held slot's register lists a qubit number.
-fn lists<N: Named + Framed>(
-    hold: &Hold<'_, Stamped<Cell, N>>,
+fn lists<N: Named + Framed, const ROOM: usize>(
+    hold: &Hold<'_, Stamped<Cell, N>, ROOM>,
     number: u16,
     qubit: Option<u8>,
 ) -> bool {

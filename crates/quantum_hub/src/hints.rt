@@ -24,8 +24,8 @@ pub(crate) fn hinted(hints: &[AtomicIn<Hint>], qubit: Option<u8>) -> Option<u16>
 }
 
 /// Writes down where the qubits of the held slots among these cells are.
-pub(crate) fn note<N: Named + Framed>(
-    hold: &Hold<'_, Stamped<Cell, N>>,
+pub(crate) fn note<N: Named + Framed, const ROOM: usize>(
+    hold: &Hold<'_, Stamped<Cell, N>, ROOM>,
     numbers: &[u16],
     hints: &[AtomicIn<Hint>],
     nodes: u8,

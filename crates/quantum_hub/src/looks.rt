@@ -19,10 +19,10 @@ use std::sync::{Mutex, Wait};
 
 /// Looks at the journal, and tells how many entries it has. Then the pass has seen all of them, and every held cell fits
 /// them and has no next value. None where a number isn't the one that the journal keeps.
-pub(crate) fn look<N: Named + Framed>(
+pub(crate) fn look<N: Named + Framed, const ROOM: usize>(
     rt: &impl Wait,
     journal: &Mutex<Journal<N>>,
-    hold: &mut Hold<'_, Stamped<Cell, N>>,
+    hold: &mut Hold<'_, Stamped<Cell, N>, ROOM>,
     pass: &mut Pass<N>,
 ) -> Option<u32>
     ensures waited { HasWaited pass.old pass.new }
@@ -37,10 +37,10 @@ pub(crate) fn look<N: Named + Framed>(
 }
 
 /// Commits an entry whose cells are held. Where it isn't committed, its step is undone.
-pub(crate) fn end<N: Named + Framed>(
+pub(crate) fn end<N: Named + Framed, const ROOM: usize>(
     rt: &impl Wait,
     journal: &Mutex<Journal<N>>,
-    hold: &mut Hold<'_, Stamped<Cell, N>>,
+    hold: &mut Hold<'_, Stamped<Cell, N>, ROOM>,
     pass: &mut Pass<N>,
     entry: Entry,
 ) -> Result<(), CommitFault>

@@ -132,8 +132,8 @@ fn load_one<N: Named + Framed>(
 }
 
 /// Lifts the picked cells of a hold onto an empty board. False if one has no place there.
-pub(crate) fn load<N: Named + Framed>(
-    hold: &mut Hold<'_, Stamped<Cell, N>>,
+pub(crate) fn load<N: Named + Framed, const ROOM: usize>(
+    hold: &mut Hold<'_, Stamped<Cell, N>, ROOM>,
     board: &mut HeldBoard,
     shape: &Shape,
     picks: &[u16],
@@ -173,8 +173,8 @@ fn lay_one<N: Named + Framed>(
 }
 
 /// Lays the cells of a board back where they were lifted out. False if one of them isn't there, or is left.
-pub(crate) fn lay<N: Named + Framed>(
-    hold: &mut Hold<'_, Stamped<Cell, N>>,
+pub(crate) fn lay<N: Named + Framed, const ROOM: usize>(
+    hold: &mut Hold<'_, Stamped<Cell, N>, ROOM>,
     board: &mut HeldBoard,
     shape: &Shape,
 ) -> bool
