@@ -16,18 +16,23 @@ with open(name, "wb") as out:
 PYTHON
 }
 
-# measured NAME FILE COUNT: one run on one core
+# measured NAME FILE COUNT: the median of nine runs on one core
 measured() {
-    python3 - "$top/qron" "$@" <<'PYTHON'
-import os, resource, subprocess, sys, time
+    python3 - "$top/crates/qron_cli/out/qron_cli" "$@" <<'PYTHON'
+import os, resource, statistics, subprocess, sys, time
 program, name, path, count = sys.argv[1], sys.argv[2], sys.argv[3], int(sys.argv[4])
 os.sched_setaffinity(0, {min(os.sched_getaffinity(0))})
-with open(path, "rb") as given:
-    start = time.perf_counter()
-    status = subprocess.run([program, "pipe"], stdin=given, stdout=subprocess.DEVNULL).returncode
-    seconds = time.perf_counter() - start
+
+def seconds():
+    """How long one run takes."""
+    with open(path, "rb") as given:
+        start = time.perf_counter()
+        subprocess.run([program, "pipe"], stdin=given, stdout=subprocess.DEVNULL, check=True)
+        return time.perf_counter() - start
+
+rate = count / statistics.median(seconds() for _ in range(9))
 memory = resource.getrusage(resource.RUSAGE_CHILDREN).ru_maxrss / 1024
-print(f"{name}: {count / seconds:,.0f} messages a second, {memory:.1f} MB at most, status {status}")
+print(f"{name}: {rate:,.0f} messages a second, {memory:.1f} MB at most")
 PYTHON
 }
 
