@@ -48,6 +48,9 @@ entry_ready z b h k e = record { balanced = k; small = subst (λ (n : ℤ). n <�
 pub greatest_entry : (c b z g : Coefficient) → IsGreatest c b g → IsAssociate b z → IsGreatest c z g
 greatest_entry c b z g k a = record { left = k.left; right = divides_trans g b z k.right (a.0); greatest = λ h p q. k.greatest h p (divides_trans h z b q (a.1)) }
 
+pub greatest_turned : (b c g : Coefficient) → IsGreatest b c g → IsGreatest c b g
+greatest_turned b c g k = record { left = k.right; right = k.left; greatest = λ h p q. k.greatest h q p }
+
 -- ---- the loop
 pub divides_more : (xs : List Omega) (n : ℕ) (c g : Coefficient) → ((i : ℕ) → i < n → Divides c (at (map omega_value xs) i)) → IsGreatest c (omega_value (slice_index_or xs n zero_omega)) g → (i : ℕ) → i < n + 1 → Divides g (at (map omega_value xs) i)
 divides_more xs n c g h k i l = ⊎_elim (λ p. divides_trans g c (at (map omega_value xs) i) k.left (h i p)) (λ e. subst (λ (j : ℕ). Divides g (at (map omega_value xs) j)) e (subst (Divides g) (sym (at_map xs n)) k.right)) (below_or_at i n l)

@@ -11,3 +11,12 @@ pub mod Rounding
 pub mod Exact
 pub mod Entries
 pub mod SignLemmas
+pub mod DeltaPowers
+pub mod ParityBits
+pub mod LaneParity
+pub mod LaneLoads
+pub mod LaneAdded
+pub mod LaneValues
+pub mod LaneWeights
+pub mod LaneWords
+pub mod LaneSizes

@@ -67,14 +67,17 @@ abs_neg z = omega (arith, ints)
 pub within_conjugate : (n : ℕ) (z : Coefficient) → CoordinatesBelow n z → CoordinatesBelow n (conjugate z)
 within_conjugate n z h = record { a = h.a; b = omega (arith, h.d, abs_neg z.d); c = omega (arith, h.c, abs_neg z.c); d = omega (arith, h.b, abs_neg z.b) }
 
-pub weight_fields : (u : Coefficient) (w : Weight) → w ≡ weight u → IsSmall u → PartsBelow (2 ^ 62) w
-weight_fields u w e s = subst (PartsBelow (2 ^ 62)) (sym e) (fields (weight u) s.x (x_not_negative u) (l.0) (l.1))
+pub weight_parts : (u : Coefficient) (w : Weight) → w ≡ weight u → (weight u).x <ℤ pos (2 ^ 62) → PartsBelow (2 ^ 62) w
+weight_parts u w e s = subst (PartsBelow (2 ^ 62)) (sym e) (fields (weight u) s (x_not_negative u) (l.0) (l.1))
   where
     l : ((weight u).y ≤ℤ (weight u).x) × (neg_ℤ (weight u).y ≤ℤ (weight u).x)
     l = y_at_most u
 
     fields : (v : Weight) → v.x <ℤ pos (2 ^ 62) → pos 0 ≤ℤ v.x → v.y ≤ℤ v.x → neg_ℤ v.y ≤ℤ v.x → PartsBelow (2 ^ 62) v
     fields v h k l m = record { x = omega (arith, ints); y = omega (arith, ints) }
+
+pub weight_fields : (u : Coefficient) (w : Weight) → w ≡ weight u → IsSmall u → PartsBelow (2 ^ 62) w
+weight_fields u w e s = weight_parts u w e s.x
 
 pub within_weight : (w : Weight) → PartsBelow (2 ^ 62) w → CoordinatesUpTo (2 ^ 94) (conjugate_weight w)
 within_weight w h = record { a = omega (arith, h.x); b = omega (arith, h.y, abs_neg w.y); c = omega arith; d = omega (arith, h.y) }

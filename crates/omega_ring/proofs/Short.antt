@@ -1,6 +1,7 @@
 -- What the code's operations at 64 bits give, where the numbers are small: sums, and quotients by 1 - w, 1 + w and both.
-use Rattle.std.proofs.Common.{◌≡◌, ◌<◌, ◌^◌, ℤ, ◌+ℤ◌, ◌-ℤ◌, unsigned_abs, FitsSigned, to_z, of_z, sym, ap, ◌∙◌, arith}
-use Rattle.std.proofs.lemmas.Int.{ints, to_z-of_z, fits_signed_from_abs}
+use Rattle.std.proofs.Common.{◌≡◌, ◌<◌, ◌^◌, ℤ, ◌+ℤ◌, ◌-ℤ◌, ◌*ℤ◌, unsigned_abs, FitsSigned, to_z, of_z, sym, ap, ◌∙◌, arith}
+use Rattle.std.proofs.lemmas.Int.{ints, to_z-of_z, unsigned_abs-mul, fits_signed_from_abs}
+use Rattle.std.proofs.lemmas.Nat.{mul-lt}
 use mir.Syntax.{w64}
 use Rattle.state_model.specs.Coefficient.{Coefficient, ◌⊗◌}
 use Rattle.state_model.specs.Divisors.{delta, delta_conjugate, both_deltas}
@@ -34,6 +35,13 @@ fits_sum x y n m h k l = rw (h.value, k.value) (fits_signed_from_abs w64 (n +ℤ
 
 fits_difference : (x y n m : ℤ) → IsShort x n → IsShort y m → unsigned_abs (n -ℤ m) < 2 ^ 63 → FitsSigned w64 (x -ℤ y)
 fits_difference x y n m h k l = rw (h.value, k.value) (fits_signed_from_abs w64 (n -ℤ m) l)
+
+-- ---- products
+pub short_product_size : (m n : ℤ) → unsigned_abs m < 2 ^ 30 → unsigned_abs n < 2 ^ 30 → unsigned_abs (m *ℤ n) < 2 ^ 60
+short_product_size m n p q = rw (unsigned_abs-mul m n) (mul-lt (unsigned_abs m) (unsigned_abs n) (2 ^ 30) (2 ^ 30) p q)
+
+pub short_product : (m n : ℤ) → unsigned_abs m < 2 ^ 30 → unsigned_abs n < 2 ^ 30 → short (short m *ℤ short n) ≡ m *ℤ n
+short_product m n p q = rw (short_is m (omega arith), short_is n (omega arith)) (short_is (m *ℤ n) (let h = short_product_size m n p q in omega (arith, h)))
 
 -- ---- the sum of the coordinates
 pub sum_is : (a b c d : ℤ) → unsigned_abs a < 2 ^ 61 → unsigned_abs b < 2 ^ 61 → unsigned_abs c < 2 ^ 61 → unsigned_abs d < 2 ^ 61

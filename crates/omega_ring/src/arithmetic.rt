@@ -55,6 +55,37 @@ pub(crate) fn total_far(p: i128, q: i128, r: i128, s: i128) -> i128
     p + q + r + s
 }
 
+/// The product of two numbers below 2^30, in 64 bits.
+pub(crate) fn short_times(m: i64, n: i64) -> i64
+    requires left { unsigned_abs m < 2 ^ 30 }
+    requires right { unsigned_abs n < 2 ^ 30 }
+    ensures value { result ≡ m *ℤ n }
+    ensures small { unsigned_abs result < 2 ^ 60 }
+{
+    m * n
+}
+
+/// The negated product of two numbers below 2^30, in 64 bits.
+pub(crate) fn short_minus(m: i64, n: i64) -> i64
+    requires left { unsigned_abs m < 2 ^ 30 }
+    requires right { unsigned_abs n < 2 ^ 30 }
+    ensures value { result ≡ neg_ℤ (m *ℤ n) }
+    ensures small { unsigned_abs result < 2 ^ 60 }
+{
+    -short_times(m, n)
+}
+
+/// The sum of four numbers below 2^60, in 64 bits.
+pub(crate) fn short_total(p: i64, q: i64, r: i64, s: i64) -> i64
+    requires first { unsigned_abs p < 2 ^ 60 }
+    requires second { unsigned_abs q < 2 ^ 60 }
+    requires third { unsigned_abs r < 2 ^ 60 }
+    requires fourth { unsigned_abs s < 2 ^ 60 }
+    ensures { result ≡ p +ℤ q +ℤ r +ℤ s }
+{
+    p + q + r + s
+}
+
 /// The product, where it stays below 2^126.
 pub(crate) fn exact(m: i128, n: i128) -> i128
     requires { unsigned_abs m * unsigned_abs n < 2 ^ 126 }
@@ -100,14 +131,14 @@ pub(crate) fn narrowed(m: i128) -> Option<i64>
 }
 
 /// Whether a number is even.
-pub(crate) fn is_even(m: i64) -> bool
+pub fn is_even(m: i64) -> bool
     ensures { IsTrue result ↔ IsEven m }
 {
     m % 2 == 0
 }
 
 /// Half of an even number.
-pub(crate) fn half_of(m: i64) -> i64
+pub fn half_of(m: i64) -> i64
     requires { IsEven m }
     ensures { m ≡ result +ℤ result }
 {

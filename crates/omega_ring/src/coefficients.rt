@@ -4,7 +4,7 @@ ghost use Rattle.state_model.specs.Coefficient.{◌⊕◌, ◌⊖◌, ◌⊗◌,
 ghost use Rattle.omega_ring.specs.Views.{omega_value, wide_value, weight_value};
 ghost use Rattle.omega_ring.specs.Range.{CoordinatesBelow, CoordinatesUpTo, FitsOmega};
 
-use crate::arithmetic::{minus, narrowed, times, total};
+use crate::arithmetic::{minus, narrowed, short_minus, short_times, short_total, times, total};
 use crate::weights::Weight;
 
 /// `a + b w + c w^2 + d w^3`, where w is the eighth root of unity and `w^4 = -1`.
@@ -83,6 +83,46 @@ impl Omega {
         ensures small { CoordinatesBelow (2 ^ 62) (omega_value result) }
     {
         self.wide().mul(other.wide()).short()
+    }
+
+    /// The squared absolute value, as `Wide::weight` gives it, of small coordinates.
+    #[inline]
+    pub fn weight(self) -> Weight
+        requires { CoordinatesBelow (2 ^ 30) (omega_value self) }
+        ensures { weight_value result ≡ weight (omega_value self) }
+    {
+        Weight {
+            x: self.squares() as i128,
+            y: self.neighbours() as i128,
+        }
+    }
+
+    /// `a^2 + b^2 + c^2 + d^2`.
+    fn squares(self) -> i64
+        requires { CoordinatesBelow (2 ^ 30) (omega_value self) }
+        ensures { result ≡ (weight (omega_value self)).x }
+    {
+        let Omega { a, b, c, d } = self;
+        short_total(
+            short_times(a, a),
+            short_times(b, b),
+            short_times(c, c),
+            short_times(d, d),
+        )
+    }
+
+    /// `ab + bc + cd - da`.
+    fn neighbours(self) -> i64
+        requires { CoordinatesBelow (2 ^ 30) (omega_value self) }
+        ensures { result ≡ (weight (omega_value self)).y }
+    {
+        let Omega { a, b, c, d } = self;
+        short_total(
+            short_times(a, b),
+            short_times(b, c),
+            short_times(c, d),
+            short_minus(d, a),
+        )
     }
 }
 

@@ -1,7 +1,7 @@
 //! Greatest common divisors by Euclid's steps, each of which divides with a rounded quotient.
 ghost use Rattle.std.specs.Prelude.{◌≡◌, ◌≢◌, ℕ, map, ◌<◌, ◌*◌, ◌^◌, ◌<ℤ◌, pos, unsigned_abs, IsTrue, ◌↔◌};
 ghost use Rattle.state_model.specs.Coefficient.{Coefficient, zero_coefficient, ◌⊗◌, weight};
-ghost use Rattle.state_model.specs.Divisors.{Divides, IsBalanced, norm};
+ghost use Rattle.state_model.specs.Divisors.{Divides, IsBalanced, IsDeltaPower, norm};
 ghost use Rattle.state_model.specs.CoefficientList.{at, DividesAll, IsNonzero};
 ghost use Rattle.state_model.specs.Quotients.{IsRemainder, IsGreatest};
 ghost use Rattle.omega_ring.specs.Views.{omega_value, omega_values, wide_value};
@@ -40,10 +40,47 @@ fn next_common(common: Wide, z: Omega) -> Wide
     ensures greatest { IsGreatest (wide_value common) (omega_value z) (wide_value result) }
     ensures ready { IsReady (wide_value result) }
 {
-    common.gcd(z.wide().balanced())
+    z.wide().balanced().gcd(common)
 }
 
 impl Omega {
+    /// A common divisor of both that every common divisor divides, with a balanced weight and coordinates
+    /// below 2^31, to go on with at the next entry of a list. The sum of squares of the other is below 2^61.
+    pub fn gcd(self, other: Omega) -> Omega
+        requires ready { IsReady (omega_value self) }
+        requires small { (weight (omega_value other)).x <ℤ pos (2 ^ 61) }
+        ensures greatest { IsGreatest (omega_value self) (omega_value other) (omega_value result) }
+        ensures ready { IsReady (omega_value result) }
+        ensures coordinates { CoordinatesBelow (2 ^ 31) (omega_value result) }
+        ensures small { (weight (omega_value result)).x <ℤ pos (2 ^ 62) }
+    {
+        next_common(self.wide(), other).short()
+    }
+
+    /// Whether the value is a unit times a power of 1 - w, which it is where its norm is a power of 2.
+    /// Its sum of squares is below 2^62, as that of each result of `gcd`.
+    pub fn is_delta_power(self) -> bool
+        requires { (weight (omega_value self)).x <ℤ pos (2 ^ 62) }
+        ensures { IsTrue result ↔ IsDeltaPower (omega_value self) }
+    {
+        self.norm().is_power_of_two()
+    }
+
+    /// The absolute norm.
+    fn norm(self) -> u128
+        requires { (weight (omega_value self)).x <ℤ pos (2 ^ 62) }
+        ensures { pos result ≡ norm (omega_value self) }
+    {
+        self.wide().weight().norm().unsigned_abs()
+    }
+
+    /// Whether the value is 0.
+    pub fn is_zero(self) -> bool
+        ensures { IsTrue result ↔ (omega_value self ≡ zero_coefficient) }
+    {
+        self.wide().is_zero()
+    }
+
     /// The quotient by u, which divides the value, has a balanced weight, and isn't zero.
     /// All coordinates of the value lie strictly between -2^31 and 2^31.
     pub fn div_exact(self, u: Omega) -> Omega
