@@ -1,35 +1,20 @@
 -- Lists over a common divisor: their sums of squares stay small, and over a greatest one they are reduced.
 use Rattle.std.proofs.Common.{◌≡◌, ◌≢◌, ℕ, ◌*◌, ◌^◌, ℤ, pos, ◌+ℤ◌, ◌-ℤ◌, ◌*ℤ◌, neg_ℤ, ◌≤ℤ◌, ◌<ℤ◌, List, [], ◌∷◌, refl, ap, subst, ◌∙◌, arith}
-use Rattle.std.proofs.lemmas.Int.{by_lt_z, ints}
-use Rattle.state_model.specs.Coefficient.{Coefficient, zero_coefficient, one_coefficient, ◌⊗◌, Weight, weight, weight_sum}
-use Rattle.state_model.specs.Divisors.{Divides, IsBalanced, weight_product, norm}
+use Rattle.std.proofs.lemmas.Int.{by_lt_z}
+use Rattle.state_model.specs.Coefficient.{Coefficient, zero_coefficient, ◌⊗◌, Weight, weight, weight_sum}
+use Rattle.state_model.specs.Divisors.{Divides, IsBalanced, weight_product}
 use Rattle.state_model.specs.CoefficientList.{at, DividesAll, IsNonzero, total_weight}
-use Rattle.state_model.proofs.Domain.{⊗-zero_coefficient, zero_coefficient-⊗}
-use Rattle.state_model.proofs.Euclid.{divides_trans}
+use Rattle.state_model.proofs.Domain.{⊗-zero_coefficient}
 use Rattle.state_model.proofs.Expressions.{pair, mul_pair}
 use Rattle.state_model.proofs.Inequalities.{order, doubled, fourfold, square_not_negative, product_not_negative, product_positive}
-use Rattle.state_model.proofs.Norms.{norm-⊗, norm_positive, norm_not_negative, weight_below, weight_above}
+use Rattle.state_model.proofs.Norms.{norm_not_negative, weight_below, weight_above}
 use Rattle.state_model.proofs.Polynomial.{Term, var, number, plus, times, less, square, minus, equal}
-use Rattle.state_model.proofs.Reduced.{unit_of_norm}
 use Rattle.state_model.proofs.Reduction.{quotients_reduced}
-use Rattle.state_model.proofs.RegisterSizes.{scaled_self}
 use Rattle.state_model.proofs.Units.{x_not_negative}
-use Rattle.omega_ring.specs.Steps.{IsReady}
 use Rattle.amplitude_register.specs.Multiples.{AllWithin, AreTimes, IsReducedFrom}
 use Rattle.amplitude_register.proofs.Steps.{scaled_times, times_weight}
-use Rattle.omega_ring.proofs.Entries.{norm_bound}
 use Rattle.omega_ring.proofs.UnitSizes.{coordinates_below}
 use Rattle.amplitude_register.proofs.Sums.{entry_below, real_sum}
-
--- ---- units
-pub unit_of_one : (u : Coefficient) → IsBalanced (weight u) → (weight u).x ≡ pos 1 → Divides u one_coefficient
-unit_of_one u b e = unit_of_norm u (one (weight u).x (weight u).y e (none (weight u).x (weight u).y e b.high b.low))
-  where
-    none : (x y : ℤ) → x ≡ pos 1 → (y +ℤ y) ≤ℤ x → neg_ℤ (y +ℤ y) ≤ℤ x → y ≡ pos 0
-    none x y e h l = omega (arith, ints)
-
-    one : (x y : ℤ) → x ≡ pos 1 → y ≡ pos 0 → x *ℤ x -ℤ pos 2 *ℤ (y *ℤ y) ≡ pos 1
-    one x y e f = ap (λ (t : ℤ). t *ℤ t -ℤ pos 2 *ℤ (y *ℤ y)) e ∙ ap (λ (t : ℤ). pos 1 *ℤ pos 1 -ℤ pos 2 *ℤ (t *ℤ t)) f
 
 -- ---- a common divisor
 pub divisor_nonzero : (vs : List Coefficient) (g : Coefficient) → IsNonzero vs → DividesAll g vs → g ≢ zero_coefficient
@@ -47,19 +32,6 @@ entries_small vs h i = wider (weight (at vs i)).x (entry_small vs (2 ^ 60) i h)
   where
     wider : (x : ℤ) → x <ℤ pos (2 ^ 60) → x <ℤ pos (2 ^ 61)
     wider x h = omega (arith, order)
-
-at_least : (q n m : ℤ) → pos 0 <ℤ q → pos 0 ≤ℤ n → (q *ℤ n) <ℤ m → n <ℤ m
-at_least q n m h k l =
-    let p = product_not_negative (q -ℤ pos 1) n (omega (arith, order)) k in
-    let e : (q -ℤ pos 1) *ℤ n ≡ q *ℤ n -ℤ n = equal (q ∷ n ∷ []) (times (less (var 0) (number (pos 1))) (var 1)) (less (times (var 0) (var 1)) (var 1)) refl in
-    omega (arith, order)
-
-pub divisor_ready : (vs : List Coefficient) (g : Coefficient) → IsNonzero vs → (total_weight vs).x <ℤ pos (2 ^ 60) → DividesAll g vs → IsBalanced (weight g) → IsReady g
-divisor_ready vs g some small d b =
-    let k : Divides g (at vs (some.0)) = d (some.0) in
-    let q : k.0 ≢ zero_coefficient = λ e. some.1 (k.1 ∙ ap (λ (t : Coefficient). t ⊗ g) e ∙ zero_coefficient-⊗ g) in
-    let n : norm (at vs (some.0)) <ℤ pos (2 ^ 122) = norm_bound (weight (at vs (some.0))).x (weight (at vs (some.0))).y (x_not_negative (at vs (some.0))) (entries_small vs small (some.0)) in
-    record { balanced = b; small = at_least (norm (k.0)) (norm g) (pos (2 ^ 122)) (norm_positive (k.0) q) (norm_not_negative g) (subst (λ (t : ℤ). t <ℤ pos (2 ^ 122)) (ap norm (k.1) ∙ norm-⊗ (k.0) g) n) }
 
 pub entries_within : (vs : List Coefficient) → (total_weight vs).x <ℤ pos (2 ^ 60) → AllWithin (2 ^ 31) vs
 entries_within vs h i = coordinates_below (2 ^ 31) (at vs i) (wider (weight (at vs i)).x (entry_small vs (2 ^ 60) i h))
@@ -141,6 +113,3 @@ pub over_greatest : (vs us : List Coefficient) (g : Coefficient) → IsNonzero v
 over_greatest vs us g some d k t =
     let n = divisor_nonzero vs g some d in
     record { scaled = scaled_times vs us g n t; reduced = quotients_reduced vs us g n k t.value }
-
-pub over_unit : (vs : List Coefficient) (g : Coefficient) → ((u : Coefficient) → DividesAll u vs → Divides u g) → Divides g one_coefficient → IsReducedFrom vs vs
-over_unit vs g k h = record { scaled = scaled_self vs; reduced = λ u d. divides_trans u g one_coefficient (k u d) h }

@@ -57,16 +57,16 @@ headed_fit l v n h is_v is_n e = let r = headed_room v n h e in let f = rows_fit
 abbrev pub filled : Block → Block → Block
 filled h d = record { qubits = h.qubits; count = h.count; rows = h.rows; weight = d.weight; entries = d.entries }
 
-value_room : (r : Inside) (h d : Block) → IsRegister r → h ≡ headed r.value r.next → length d.entries.items ≡ length h.entries.items → length d.entries.items ≡ length r.value.entries.items
+pub value_room : (r : Inside) (h d : Block) → IsRegister r → h ≡ headed r.value r.next → length d.entries.items ≡ length h.entries.items → length d.entries.items ≡ length r.value.entries.items
 value_room r h d i e room = let v = i.value in let n = i.next in room ∙ headed_room r.value r.next h e ∙ n.room ∙ sym v.room
 
-headed_register : (r : Inside) (s : Stage) (h d : Block) → IsRegister r → h ≡ headed r.value r.next → length d.entries.items ≡ length h.entries.items → IsStage s (filled r.value d) → IsRegister record { limit = r.limit; value = r.value; next = filled h d; stage = s }
+pub headed_register : (r : Inside) (s : Stage) (h d : Block) → IsRegister r → h ≡ headed r.value r.next → length d.entries.items ≡ length h.entries.items → IsStage s (filled r.value d) → IsRegister record { limit = r.limit; value = r.value; next = filled h d; stage = s }
 headed_register r s h d i e room k =
     subst (λ (b : Block). IsRegister record { limit = r.limit; value = r.value; next = filled b d; stage = s }) (sym e)
     (next_placed r s (filled r.value d) i (same_block r.limit r.value (filled r.value d) refl refl refl (value_room r h d i e room) i.value) k)
 
 -- ---- what a gate of one qubit makes of the value
-abbrev filled_list : Inside → Block → List Coefficient
+abbrev pub filled_list : Inside → Block → List Coefficient
 filled_list r d = map omega_value (take r.value.rows d.entries.items)
 
 gate_stepped : (m : Matrix) (n place : ℕ) (r : Inside) (h d : Block) → IsRegister r → h ≡ headed r.value r.next → place < r.value.count → length d.entries.items ≡ length h.entries.items

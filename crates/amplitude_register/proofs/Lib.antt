@@ -2,6 +2,7 @@ pub mod Loops
 pub mod Sums
 pub mod Steps
 pub mod Divided
+pub mod Folded
 pub mod Fields
 pub mod SealedDrafts
 pub mod RowPairs
@@ -12,3 +13,12 @@ pub mod Runs
 pub mod PreparedRows
 pub mod Placed
 pub mod FromValues
+pub mod Weighed
+pub mod MixedOver
+pub mod MixedParities
+pub mod MixedRows
+pub mod MixedWrites
+pub mod MixedDivisors
+pub mod MixedPairs
+pub mod MixedNormal
+pub mod MixedRegister

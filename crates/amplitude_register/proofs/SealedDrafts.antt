@@ -4,6 +4,7 @@ use Rattle.state_model.specs.Coefficient.{Coefficient, one_coefficient, ◌⊗�
 use Rattle.state_model.specs.CoefficientList.{at, IsReduced, IsScaled, IsProportional, IsNonzero, IsLeastSize, HasDeltaDivisors, total_weight}
 use Rattle.state_model.specs.StateVector.{IsSameState}
 use Rattle.state_model.specs.Amplitudes.{Amplitudes, vector_of}
+use Rattle.state_model.proofs.Domain.{⊗-zero_coefficient}
 use Rattle.state_model.proofs.Euclid.{one-⊗}
 use Rattle.state_model.proofs.Inequalities.{order}
 use Rattle.state_model.proofs.RegisterLists.{scaled_same}
@@ -11,7 +12,6 @@ use Rattle.state_model.proofs.RegisterSizes.{scaled_trans}
 use Rattle.state_model.proofs.Ring.{⊗_comm, ⊗_assoc}
 use Rattle.amplitude_register.specs.States.{draft, prepared, RegisterState, IsDraft, next_value, IsSealed, IsRefused, CanReduce}
 use Rattle.amplitude_register.specs.Held.{next_of}
-use Rattle.amplitude_register.specs.Multiples.{IsReducedFrom}
 use Rattle.amplitude_register.specs.declared.block.Stage.{Stage}
 use Rattle.amplitude_register.specs.declared.register.Reduce.{Reduce}
 use Rattle.amplitude_register.specs.declared.register.Reduce.TheVariants.{Full}
@@ -24,6 +24,10 @@ full_small r list e h = subst (λ (t : Reduce). CanReduce t list) e h
 pub reduced_delta : (vs : List Coefficient) → IsReduced vs → HasDeltaDivisors vs
 reduced_delta vs h u d = record { power = 0; factor = u; is_unit = h u d; value = sym (⊗_comm u one_coefficient ∙ one-⊗ u) }
 
+-- a list of which one that isn't zero is a multiple
+pub scaled_nonzero : (us vs : List Coefficient) → IsScaled us vs → IsNonzero vs → IsNonzero us
+scaled_nonzero us vs h (i, n) = (i, λ e. n (h.value i ∙ ap (λ (t : Coefficient). h.factor ⊗ t) e ∙ ⊗-zero_coefficient h.factor))
+
 -- ---- a draft that another list took the place of
 pub draft_after : (o : RegisterState) (l : ℕ) (v : Amplitudes) (s : Stage) (a n : Amplitudes) → state l v (next_of s a) ≡ o → IsDraft o.next → n.qubits ≡ a.qubits → state l v (draft n) ≡ record o { next = draft record { qubits = (next_value o.next).qubits; list = n.list } }
 draft_after o l v s a n e p q =
@@ -32,9 +36,6 @@ draft_after o l v s a n e p q =
 
 pub open_length : (o : RegisterState) (l : ℕ) (v : Amplitudes) (s : Stage) (a : Amplitudes) → state l v (next_of s a) ≡ o → IsDraft o.next → (xs : List Coefficient) → length xs ≡ length a.list → length xs ≡ length (next_value o.next).list
 open_length o l v s a e p xs h = h ∙ sym (ap (λ (t : Amplitudes). length t.list) (open_value o l v s a e p))
-
-pub open_reduced : (o : RegisterState) (l : ℕ) (v : Amplitudes) (s : Stage) (a : Amplitudes) → state l v (next_of s a) ≡ o → IsDraft o.next → (xs : List Coefficient) → IsReducedFrom a.list xs → IsReducedFrom (next_value o.next).list xs
-open_reduced o l v s a e p xs h = subst (λ (t : Amplitudes). IsReducedFrom t.list xs) (sym (open_value o l v s a e p)) h
 
 pub open_small : (n : ℕ) (o : RegisterState) (l : ℕ) (v : Amplitudes) (s : Stage) (a : Amplitudes) → state l v (next_of s a) ≡ o → IsDraft o.next → (total_weight (next_value o.next).list).x <ℤ pos n → (total_weight a.list).x <ℤ pos n
 open_small n o l v s a e p h = subst (λ (t : Amplitudes). (total_weight t.list).x <ℤ pos n) (open_value o l v s a e p) h

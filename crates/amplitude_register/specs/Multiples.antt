@@ -1,8 +1,10 @@
 -- Lists of coefficients: sizes of their coordinates, multiples entry by entry, and places of a row.
 use Rattle.std.specs.Prelude.{◌≡◌, ℕ, ◌<◌, ◌≤◌, ◌^◌, List, length}
 use Rattle.state_model.specs.Coefficient.{Coefficient, ◌⊗◌}
-use Rattle.state_model.specs.CoefficientList.{at, IsReduced, IsScaled}
+use Rattle.state_model.specs.CoefficientList.{at, DividesAll, IsReduced, IsScaled}
+use Rattle.state_model.specs.Divisors.{Divides}
 use Rattle.omega_ring.specs.Range.{CoordinatesBelow}
+use Rattle.omega_ring.specs.Steps.{IsReady}
 
 -- all coordinates of all entries lie strictly between -n and n
 abbrev pub AllWithin : ℕ → List Coefficient → Type 0
@@ -17,6 +19,12 @@ pub record AreTimes (vs us : List Coefficient) (u : Coefficient) : Type 0 where
 pub record IsReducedFrom (vs us : List Coefficient) : Type 0 where
   pub scaled : IsScaled us vs
   pub reduced : IsReduced us
+
+-- u is a greatest common divisor of all entries, with which Euclid's steps go on
+pub record IsGreatestOf (vs : List Coefficient) (u : Coefficient) : Type 0 where
+  pub common : DividesAll u vs
+  pub greatest : (h : Coefficient) → DividesAll h vs → Divides h u
+  pub ready : IsReady u
 
 -- so many rows are those of some number of qubits, at most 12, of which one is at the place
 pub record HasPlace (place rows : ℕ) : Type 0 where

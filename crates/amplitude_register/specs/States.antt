@@ -115,3 +115,9 @@ pub record IsRefused (old new : RegisterState) (size : ℤ) : Type 0 where
   pub least : IsLeastSize (next_value old.next).list size
   pub size_is : IsSize (vector_of (next_value old.next)) (next_value old.next).qubits (nat_abs size)
   pub large : pos (2 ^ 60) ≤ℤ size
+
+-- a draft of what a gate's matrix makes of the register's value, row by row, with s times its weight, and how it ended
+pub record IsGateSealed (m : Matrix) (place s : ℕ) (old : RegisterState) (end : RegisterState → Type 0) : Type 0 where
+  pub middle : RegisterState
+  pub step : IsGateStep m place s record old { next = draft old.value } middle
+  pub ended : end middle

@@ -8,8 +8,10 @@ mod bounds;
 mod common;
 mod controlled;
 mod division;
+mod divisor;
 mod from_value;
 mod fronts;
+mod mixing;
 mod normal;
 mod passes;
 mod register;
@@ -17,6 +19,6 @@ mod rows;
 #[cfg(test)]
 mod tests;
 mod two_passes;
+mod weighing;
 
 pub use register::{Reduce, Register, TooLarge};
-pub use rows::has_bit;

@@ -2,7 +2,7 @@
 ghost use Rattle.std.specs.Prelude.{◌≡◌, ◌≢◌, pos, nat_abs, ◌<◌, ◌≤◌, ◌^◌, ◌<ℤ◌, false, length, IfOk, MatchResult, MatchOption, slice_index_or};
 ghost use Rattle.state_model.specs.Coefficient.{negated};
 ghost use Rattle.state_model.specs.Row.{is_listed};
-ghost use Rattle.state_model.specs.CoefficientList.{at, total_weight, IsNonzero, HasDeltaDivisors};
+ghost use Rattle.state_model.specs.CoefficientList.{at, total_weight, IsNonzero, IsScaled, HasDeltaDivisors};
 ghost use Rattle.state_model.specs.StateVector.{IsSize};
 ghost use Rattle.state_model.specs.Gate.{matrix};
 ghost use Rattle.state_model.specs.declared.Gate.TheVariants.{H, X, RotZ};
@@ -10,7 +10,6 @@ ghost use Rattle.state_model.specs.declared.Two.TheVariants.{Cnot, Cphase};
 ghost use Rattle.state_model.specs.Amplitudes.{vector_of, AreDistinct, HasRows};
 ghost use Rattle.omega_ring.specs.Views.{omega_value, omega_values, weight_value};
 ghost use Rattle.omega_ring.specs.Range.{CoordinatesBelow};
-ghost use Rattle.amplitude_register.specs.Multiples.{IsReducedFrom};
 ghost use Rattle.amplitude_register.specs.States.{RegisterState, empty, draft, prepared, no_qubit, basis_state, pair_state, zeros, IsDraft, IsPrepared, IsPresent, IsNextKept, next_value, prepared_qubits, with_list, with_row, IsKept, IsGateStep, IsTwoGateStep, IsSealed, IsRefused, CanReduce};
 
 use crate::block::{Block, Stage, next_weight};
@@ -365,18 +364,22 @@ impl Register {
         }
     }
 
-    /// Divides the draft by a greatest common divisor of its entries.
+    /// Divides the draft by a greatest common divisor of its entries, unless all its common divisors are powers
+    /// of 1 - w, which `seal_draft` divides by.
     fn divide_draft(&mut self)
         requires open { IsDraft self.old.next }
         requires nonzero { IsNonzero (next_value self.old.next).list }
         requires small { (total_weight (next_value self.old.next).list).x <ℤ pos (2 ^ 60) }
         ensures after { self.new ≡ record self.old { next = draft record { qubits = (next_value self.old.next).qubits; list = (next_value self.new.next).list } } }
         ensures rows { length (next_value self.new.next).list ≡ length (next_value self.old.next).list }
-        ensures reduced { IsReducedFrom (next_value self.old.next).list (next_value self.new.next).list }
+        ensures scaled { IsScaled (next_value self.new.next).list (next_value self.old.next).list }
+        ensures divisors { HasDeltaDivisors (next_value self.new.next).list }
         ensures small { (total_weight (next_value self.new.next).list).x <ℤ pos (2 ^ 62) }
     {
-        common::divide_common_front(&mut self.next.entries, self.next.rows);
-        self.stage = Stage::Open;
+        if let Some(common) = common::common_front(&self.next.entries, self.next.rows) {
+            common::divide_front(&mut self.next.entries, self.next.rows, common);
+            self.stage = Stage::Open;
+        }
     }
 
     /// Divides the draft by powers of 1 - w, which are all that its entries have in common, balances and

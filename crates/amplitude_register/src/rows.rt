@@ -10,7 +10,7 @@ ghost use Rattle.amplitude_register.specs.Multiples.{AllWithin, HasPlace};
 use omega_ring::Omega;
 
 /// Whether the row's bit at the place is 1.
-pub fn has_bit(row: usize, place: u8) -> bool
+pub(crate) fn has_bit(row: usize, place: u8) -> bool
     requires { place < 12 }
     ensures { result ≡ is_set place row }
 {

@@ -21,7 +21,7 @@ use Rattle.state_model.proofs.Ring.{⊗_comm, ⊗_assoc}
 use Rattle.state_model.proofs.SameStates.{same_reflexive}
 use Rattle.state_model.proofs.RegisterGates.{gate_list}
 use Rattle.state_model.proofs.GateLists.{first_row, second_row, gate_lists, gate_delta_divisors, gate_nonzero}
-use Rattle.amplitude_register.specs.States.{RegisterState, prepared, next_value, IsNextKept, IsKept, IsGateStep, IsSealed, IsRefused}
+use Rattle.amplitude_register.specs.States.{RegisterState, draft, prepared, next_value, IsNextKept, IsKept, IsGateStep, IsGateSealed, IsSealed, IsRefused}
 use Rattle.gate_kernels.specs.Gates.{Kind, drafting, preparing, at_kind, IsMade, IsApplied, IsTooLarge, gate_at}
 use Rattle.gate_kernels.proofs.Matrices.{y_entry, back_nonzero}
 
@@ -156,8 +156,15 @@ mixed_scale g (inr (inl e)) s = absurd (let f : 2 ≡ 1 = sym (ap scale_of e) �
 mixed_scale g (inr (inr (inl e))) s = absurd (let f : 4 ≡ 1 = sym (ap scale_of (e.1)) ∙ s in omega arith)
 mixed_scale g (inr (inr (inr e))) s = absurd (let f : 4 ≡ 1 = sym (ap scale_of (e.1)) ∙ s in omega arith)
 
-pub made_scaled : (g h : Gate) (s place : ℕ) (old new : RegisterState) → g ≡ h → scale_of h ≡ s → IsMade drafting (matrix h) s place old new → IsMade drafting (matrix g) (scale_of g) place old new
-made_scaled g h s place old new is scale made = subst (λ (t : Gate). IsMade drafting (matrix t) (scale_of t) place old new) (sym is) (subst (λ (n : ℕ). IsMade drafting (matrix h) n place old new) (sym scale) made)
+-- the same for a gate that is h
+pub sealed_as : {A E : Type 0} (size : E → ℤ) (g h : Gate) (s place : ℕ) (old mid new : RegisterState) (r : Result A E) → g ≡ h → HasRows old.value → place < length old.value.qubits → IsMade drafting (matrix h) s place old mid
+    → MatchResult r (λ (x : A). IsSealed mid new) (λ (e : E). IsRefused mid new (size e)) → MatchResult r (λ (x : A). IsApplied g place old new) (λ (e : E). IsTooLarge g place old new (size e))
+sealed_as size g h s place old mid new r is rows l made seal = sealed_answer size g s place old mid new r rows l (made_as drafting _ _ s place old mid (ap matrix (sym is)) made) seal
+
+-- H on a register's value in one call
+pub mixed_answer : {A E : Type 0} (size : E → ℤ) (g : Gate) (place : ℕ) (old new : RegisterState) (r : Result A E) → g ≡ H → HasRows old.value → place < length old.value.qubits
+    → IsGateSealed (matrix H) place 2 old (λ middle. MatchResult r (λ (x : A). IsSealed middle new) (λ (e : E). IsRefused middle new (size e))) → MatchResult r (λ (x : A). IsApplied g place old new) (λ (e : E). IsTooLarge g place old new (size e))
+mixed_answer size g place old new r is rows l h = sealed_as size g H 2 place old h.middle new r is rows l (made_first drafting (matrix H) 2 place old record old { next = draft old.value } h.middle refl h.step) h.ended
 
 -- ---- gates that only move, negate or turn rows
 pub moved_scale : (g : Gate) → (g ≡ I) ⊎ ((g ≡ X) ⊎ ((g ≡ Y) ⊎ ((g ≡ Z) ⊎ ((g ≡ T) ⊎ ((k : ℕ) × (g ≡ RotZ k)))))) → scale_of g ≡ 1

@@ -32,32 +32,23 @@ pub fn prepare_one(reg: &mut Register, place: u8, gate: Gate) -> Result<(), TooL
 {
     reg.facts();
     match gate {
-        Gate::H | Gate::K | Gate::RotX(_) | Gate::RotY(_) => {
-            draft_mixed(reg, place, gate);
+        Gate::H => reg.prepare_mixed(place),
+        Gate::K => {
+            mix_turned(reg, place);
+            reg.seal(Reduce::Delta)
+        }
+        Gate::RotX(eighths) => {
+            turn_mixed(reg, place, eighths);
+            reg.seal(Reduce::Delta)
+        }
+        Gate::RotY(eighths) => {
+            turn_mixed_turned(reg, place, eighths);
             reg.seal(Reduce::Delta)
         }
         Gate::I | Gate::X | Gate::Y | Gate::Z | Gate::T | Gate::RotZ(_) => {
             prepare_moved(reg, place, gate);
             Ok(())
         }
-    }
-}
-
-/// Drafts what a gate makes that adds rows up; at the others a copy of the value.
-fn draft_mixed(reg: &mut Register, place: u8, gate: Gate)
-    requires place { place < length reg.old.value.qubits }
-    requires eighths { HasEighths gate }
-    ensures made { scale_of gate ≢ 1 → IsMade drafting (matrix gate) (scale_of gate) place reg.old reg.new }
-    ensures open { IsDraft reg.new.next }
-    ensures small { (total_weight (next_value reg.new.next).list).x <ℤ pos (2 ^ 122) }
-{
-    reg.facts();
-    match gate {
-        Gate::H => mix(reg, place),
-        Gate::K => mix_turned(reg, place),
-        Gate::RotX(eighths) => turn_mixed(reg, place, eighths),
-        Gate::RotY(eighths) => turn_mixed_turned(reg, place, eighths),
-        Gate::I | Gate::X | Gate::Y | Gate::Z | Gate::T | Gate::RotZ(_) => reg.begin_same(),
     }
 }
 
@@ -112,14 +103,6 @@ fn turn(reg: &mut Register, place: u8, eighths: u8)
     reg.facts();
 }
 
-/// Drafts the sums and differences of the value's rows, as H does.
-fn mix(reg: &mut Register, place: u8)
-    requires { place < length reg.old.value.qubits }
-    ensures { IsMade drafting (matrix H) 2 place reg.old reg.new }
-{
-    reg.begin_mixed(place);
-}
-
 /// Drafts what K makes of the value: H between a turn back and a turn by a quarter.
 fn mix_turned(reg: &mut Register, place: u8)
     requires { place < length reg.old.value.qubits }
@@ -139,7 +122,7 @@ fn turn_mixed(reg: &mut Register, place: u8, eighths: u8)
     ensures { IsMade drafting (matrix (RotX eighths)) 4 place reg.old reg.new }
 {
     reg.facts();
-    mix(reg, place);
+    reg.begin_mixed(place);
     reg.turn_rows(place, eighths);
     reg.mix_rows(place);
 }

@@ -5,6 +5,7 @@ pub mod ProductSizes
 pub mod Coordinates
 pub mod ProductWeights
 pub mod WrittenRows
+pub mod Factors
 pub mod MergedDrafts
 pub mod JoinedNumbers
 pub mod Apart

@@ -5,7 +5,7 @@ use mathlib.Core.Path.{fun_ext}
 use Rattle.std.proofs.Math.Nat.{pow-succ'}
 use Rattle.std.proofs.lemmas.Bool.{cases_lt}
 use Rattle.std.proofs.lemmas.List.{length-replicate, length-set}
-use Rattle.state_model.specs.Coefficient.{Coefficient, zero_coefficient}
+use Rattle.state_model.specs.Coefficient.{Coefficient, zero_coefficient, weight}
 use Rattle.state_model.specs.CoefficientList.{at, IsNonzero, total_weight}
 use Rattle.state_model.specs.Row.{inserted, without}
 use Rattle.state_model.specs.StateVector.{IsSameState}
@@ -18,6 +18,7 @@ use Rattle.amplitude_register.specs.States.{RegisterState, Next, draft, prepared
 use Rattle.omega_ring.specs.Range.{CoordinatesBelow}
 use Rattle.omega_ring.proofs.Rounding.{within_up}
 use Rattle.amplitude_register.proofs.Sums.{within_sum}
+use Rattle.amplitude_register.proofs.Weighed.{entry_small}
 use Rattle.register_split.proofs.Inserted.{inserted_below}
 use Rattle.register_split.specs.Removal.{HasRowWith, IsTakenOut, IsDrafted}
 
@@ -101,6 +102,9 @@ read_range place bit row k old mid z kept h e =
     let s = kept.small in
     subst (CoordinatesBelow (2 ^ 62)) (sym (e ∙ ap (λ (t : Amplitudes). at t.list k) (copy_value place bit row old mid h)))
     (within_up (2 ^ 61) (2 ^ 62) (at old.value.list k) (within_sum old.value.list (smaller (total_weight old.value.list).x s) k) (omega arith))
+
+pub read_small : (place : ℕ) (bit : Bool) (row k : ℕ) (old mid : RegisterState) (z : Coefficient) → IsKept old.value → IsCopying place bit row old mid → z ≡ at mid.value.list k → (weight z).x <ℤ pos (2 ^ 60)
+read_small place bit row k old mid z kept h e = entry_small old.value.list k z kept.small (e ∙ ap (λ (t : Amplitudes). at t.list k) (copy_value place bit row old mid h))
 
 -- a draft for the register with another next value
 pub drafted_from : (place : ℕ) (bit : Bool) (old begun mid : RegisterState) (x : Next) → begun ≡ record old { next = x } → IsDrafted place bit begun mid → IsDrafted place bit old mid

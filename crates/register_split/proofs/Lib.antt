@@ -1,5 +1,5 @@
 pub mod Inserted
 pub mod Others
-pub mod Weighed
 pub mod Drafts
 pub mod Worked
+pub mod KeptWeights
